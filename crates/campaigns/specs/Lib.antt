@@ -1,0 +1,2 @@
+-- The worked campaigns: what each call answers, as the paper says it.
+pub mod Table

@@ -1,0 +1,45 @@
+-- The worked campaigns of the paper, each with the answer that the paper gives. A row is a call, a file and the answer.
+use Prim.Native.Char.{code}
+use Prim.Native.Nat.{ℕ, zero, suc}
+use Prim.Native.String.{String}
+use mathlib.Core.Bool.{true, false}
+use mathlib.Core.List.{List, [], _∷_, _++_}
+use mathlib.Core.Path.{_≡_}
+use lib.Dec.{eqb}
+use Rattle.plan.specs.declared.Refusal.the-variants.{Range, Form, Twice, TooManyVariants}
+use Rattle.read.specs.Answer.{readOf}
+use Rattle.read.specs.declared.ReadAnswer.{ReadAnswer}
+use Rattle.read.specs.declared.ReadAnswer.the-variants.{Read, Refused}
+
+-- The bytes of a text whose lines are shown with `/` (47): each line is ended by byte 10.
+abbrev pub file : String → List ℕ
+file String.[] = 10 ∷ []
+file (String._∷_ c s) = elim (eqb (code c) 47) [ true ↦ 10 ∷ file s | false ↦ code c ∷ file s ]
+
+abbrev pub times : ℕ → List ℕ → List ℕ
+times zero s = []
+times (suc n) s = s ++ times n s
+
+pub data Row : Type 0 where
+  reads : List ℕ → ReadAnswer → Row
+
+-- What a row says of the definitions.
+abbrev pub Holds : Row → Type 0
+Holds (reads s answer) = readOf s ≡ answer
+
+unfoldable pub table : List Row
+table =
+    -- The dot test.
+    reads (file "plan=1/res=3/acts=5/act=0,4/act=1,2/act=1,3/act=2,5/act=1,6/nodes=9/node=s,2/node=x,2/node=a,0/node=p,2/node=a,1/node=a,2/node=p,2/node=a,3/node=a,4") (Read 5 9 2)
+    -- Durations on both sides of their limits, and a leading zero.
+    ∷ reads (file "plan=1/res=1/acts=1/act=0,2000/nodes=1/node=a,0") (Read 1 1 1)
+    ∷ reads (file "plan=1/res=1/acts=1/act=0,2001/nodes=1/node=a,0") (Refused (Range 4))
+    ∷ reads (file "plan=1/res=1/acts=1/act=0,0/nodes=1/node=a,0") (Refused (Range 4))
+    ∷ reads (file "plan=1/res=1/acts=1/act=0,04/nodes=1/node=a,0") (Refused (Form 4))
+    -- Activity 0 twice, under an x and under a p.
+    ∷ reads (file "plan=1/res=1/acts=1/act=0,1/nodes=3/node=x,2/node=a,0/node=a,0") (Read 1 3 2)
+    ∷ reads (file "plan=1/res=1/acts=1/act=0,1/nodes=3/node=p,2/node=a,0/node=a,0") (Refused Twice)
+    -- p over twelve x of two distinct activities, and with one of an x's two activities named there a second time.
+    ∷ reads (file "plan=1/res=1/acts=24" ++ (times 24 (file "act=0,1") ++ (file "nodes=37/node=p,12/node=x,2/node=a,0/node=a,1" ++ (file "node=x,2/node=a,2/node=a,3/node=x,2/node=a,4/node=a,5/node=x,2/node=a,6/node=a,7/node=x,2/node=a,8/node=a,9/node=x,2/node=a,10/node=a,11/node=x,2/node=a,12/node=a,13" ++ file "node=x,2/node=a,14/node=a,15/node=x,2/node=a,16/node=a,17/node=x,2/node=a,18/node=a,19/node=x,2/node=a,20/node=a,21/node=x,2/node=a,22/node=a,23")))) (Read 24 37 4096)
+    ∷ reads (file "plan=1/res=1/acts=24" ++ (times 24 (file "act=0,1") ++ (file "nodes=38/node=p,12/node=x,3/node=a,0/node=a,1/node=a,0" ++ (file "node=x,2/node=a,2/node=a,3/node=x,2/node=a,4/node=a,5/node=x,2/node=a,6/node=a,7/node=x,2/node=a,8/node=a,9/node=x,2/node=a,10/node=a,11/node=x,2/node=a,12/node=a,13" ++ file "node=x,2/node=a,14/node=a,15/node=x,2/node=a,16/node=a,17/node=x,2/node=a,18/node=a,19/node=x,2/node=a,20/node=a,21/node=x,2/node=a,22/node=a,23")))) (Refused TooManyVariants)
+    ∷ []

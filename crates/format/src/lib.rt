@@ -1,0 +1,1 @@
+// The plan file as text: definitions and the facts about them. There is no code here.

@@ -1,0 +1,2 @@
+-- What the program's answer to a text says.
+pub mod Answer

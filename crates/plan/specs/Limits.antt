@@ -1,0 +1,64 @@
+-- The limits and the line forms of the plan file, in the edition in force. A later edition changes this file.
+use Prim.Native.Nat.{ℕ}
+use Prim.Native.Char.{Char, code}
+use Prim.Native.String.{String}
+use mathlib.Core.Bool.{Bool, _&&_}
+use mathlib.Core.List.{List, [], _∷_}
+use lib.Dec.{leb, ltb, eqb}
+
+-- The bytes of a quoted text.
+abbrev pub bytes : String → List ℕ
+bytes String.[] = []
+bytes (String._∷_ c s) = code c ∷ bytes s
+
+abbrev pub between : ℕ → ℕ → ℕ → Bool
+between low high n = leb low n && leb n high
+
+-- No accepted file is longer.
+abbrev pub longest : ℕ
+longest = 959
+
+-- A value has no more decimal digits than this.
+abbrev pub mostDigits : ℕ
+mostDigits = 5
+
+abbrev pub mostVariants : ℕ
+mostVariants = 4096
+
+abbrev pub isEdition : ℕ → Bool
+isEdition n = eqb n 1
+
+-- A resource is a device in the paper's words.
+abbrev pub isResourceCount : ℕ → Bool
+isResourceCount n = between 1 16 n
+
+abbrev pub isActCount : ℕ → Bool
+isActCount n = between 1 24 n
+
+abbrev pub isDuration : ℕ → Bool
+isDuration n = between 1 2000 n
+
+abbrev pub isNodeCount : ℕ → Bool
+isNodeCount n = between 1 64 n
+
+abbrev pub isChildCount : ℕ → Bool
+isChildCount n = between 1 63 n
+
+-- The form of each kind of line: `#` stands for a value and `@` for a node's letter.
+abbrev pub editionForm : List ℕ
+editionForm = bytes "plan=#\n"
+
+abbrev pub resourcesForm : List ℕ
+resourcesForm = bytes "res=#\n"
+
+abbrev pub actsForm : List ℕ
+actsForm = bytes "acts=#\n"
+
+abbrev pub actForm : List ℕ
+actForm = bytes "act=#,#\n"
+
+abbrev pub nodesForm : List ℕ
+nodesForm = bytes "nodes=#\n"
+
+abbrev pub nodeForm : List ℕ
+nodeForm = bytes "node=@,#\n"

@@ -1,0 +1,3 @@
+-- Which plan files are accepted, and what READ answers.
+pub mod Judge
+pub mod Answer

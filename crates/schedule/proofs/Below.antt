@@ -1,0 +1,162 @@
+-- Facts about "every number below n", the sum below n and the largest below n. Two sums or two maxima are compared term
+-- by term.
+use Prim.Native.Nat.{ℕ, zero, suc, _+_, _≤_, _<_, zero-le}
+use native.Mathlib.Nat.{not-suc-le-zero, le-antisymm}
+use native.Mathlib.Decide.{ℕ-discrete}
+use native.Mathlib.Omega.{arith}
+use mathlib.Core.Bool.{Bool, true, false, cond, _&&_}
+use mathlib.Core.Path.{_≡_, refl, sym, ap, ap₂}
+use mathlib.Core.Logic.{_≢_, by-cases}
+use lib.Dec.{eqb}
+use borrow.Author.Tests.{eq-eqb, ne-eqb}
+use Rattle.schedule.specs.Below.{everyBelow, sumBelow, maxBelow, _implies_}
+
+-- Bool
+
+pub by-bool {ℓ} : {C : Type ℓ} (b : Bool) → (b ≡ true → C) → (b ≡ false → C) → C
+by-bool true y n = y refl
+by-bool false y n = n refl
+
+pub true-not-false {ℓ} : {C : Type ℓ} {b : Bool} → b ≡ true → b ≡ false → C
+true-not-false {b} y n = let z : _≡_ {A = ℕ} 0 1 = cc in absurd (omega arith)
+
+pub same-bool : (a b : Bool) → (a ≡ true → b ≡ true) → (b ≡ true → a ≡ true) → a ≡ b
+same-bool true b f g = sym (f refl)
+same-bool false true f g = g refl
+same-bool false false f g = refl
+
+pub both : {a b : Bool} → a ≡ true → b ≡ true → (a && b) ≡ true
+both {a} {b} p q = ap₂ _&&_ p q
+
+pub and-left : (a b : Bool) → (a && b) ≡ true → a ≡ true
+and-left true b e = refl
+and-left false b e = e
+
+pub and-right : (a b : Bool) → (a && b) ≡ true → b ≡ true
+and-right true b e = e
+and-right false b e = true-not-false e refl
+
+pub implies-elim : (a b : Bool) → (a implies b) ≡ true → a ≡ true → b ≡ true
+implies-elim true b e h = e
+implies-elim false b e h = true-not-false h refl
+
+pub implies-intro : (a b : Bool) → (a ≡ true → b ≡ true) → (a implies b) ≡ true
+implies-intro true b f = f refl
+implies-intro false b f = refl
+
+pub implies-fails : (a b : Bool) → (a implies b) ≡ false → (a ≡ true) × (b ≡ false)
+implies-fails true b e = (refl, e)
+implies-fails false b e = true-not-false refl e
+
+pub not-both : (a b : Bool) → (a && b) ≡ false → a ≡ true → b ≡ false
+not-both true b e h = e
+not-both false b e h = true-not-false h refl
+
+pub cond-true {ℓ} : {A : Type ℓ} {b : Bool} (x y : A) → b ≡ true → cond b x y ≡ x
+cond-true x y e = rw e
+
+pub cond-false {ℓ} : {A : Type ℓ} {b : Bool} (x y : A) → b ≡ false → cond b x y ≡ y
+cond-false x y e = rw e
+
+pub cond-le : (b : Bool) (x : ℕ) → cond b x 0 ≤ x
+cond-le true x = omega arith
+cond-le false x = zero-le
+
+pub cond-mono : (a b : Bool) (x : ℕ) → (a ≡ true → b ≡ true) → cond a x 0 ≤ cond b x 0
+cond-mono true b x f = omega (arith, cond-true x 0 (f refl))
+cond-mono false b x f = zero-le
+
+-- every number below n
+
+pub every-at : (n : ℕ) (f : ℕ → Bool) → everyBelow n f ≡ true → (i : ℕ) → i < n → f i ≡ true
+unfolding everyBelow
+every-at zero f e i h = absurd (not-suc-le-zero h)
+every-at (suc n) f e i h =
+    by-cases
+    (ℕ-discrete i n)
+    (λ q. rw q (and-right (everyBelow n f) (f n) e))
+    (λ ne. every-at n f (and-left (everyBelow n f) (f n) e) i (omega arith))
+
+pub every-of : (n : ℕ) (f : ℕ → Bool) → ((i : ℕ) → i < n → f i ≡ true) → everyBelow n f ≡ true
+unfolding everyBelow
+every-of zero f h = refl
+every-of (suc n) f h = both (every-of n f (λ i l. h i (omega arith))) (h n (omega arith))
+
+pub every-fails : (n : ℕ) (f : ℕ → Bool) → everyBelow n f ≡ false → (i : ℕ) × (i < n) × (f i ≡ false)
+unfolding everyBelow
+every-fails zero f e = true-not-false refl e
+every-fails (suc n) f e =
+    by-bool
+    (everyBelow n f)
+    (λ y. (n, omega arith, not-both (everyBelow n f) (f n) e y))
+    (λ no′. let (i, l, x) = every-fails n f no′ in (i, omega arith, x))
+
+-- sums
+
+pub sum-le : (n : ℕ) (f g : ℕ → ℕ) → ((i : ℕ) → i < n → f i ≤ g i) → sumBelow n f ≤ sumBelow n g
+unfolding sumBelow
+sum-le zero f g h = zero-le
+sum-le (suc n) f g h = omega (arith, sum-le n f g (λ i l. h i (omega arith)), h n (omega arith))
+
+pub sum-eq : (n : ℕ) (f g : ℕ → ℕ) → ((i : ℕ) → i < n → f i ≡ g i) → sumBelow n f ≡ sumBelow n g
+sum-eq n f g h = le-antisymm (sum-le n f g (λ i l. omega (arith, h i l))) (sum-le n g f (λ i l. omega (arith, h i l)))
+
+-- All terms of f are at most those of g, save the one at j.
+pub sum-le-but : (n : ℕ) (f g : ℕ → ℕ) (j b c : ℕ) → j < n → ((i : ℕ) → i < n → i ≢ j → f i ≤ g i) → f j + b ≤ g j + c → sumBelow n f + b ≤ sumBelow n g + c
+unfolding sumBelow
+sum-le-but zero f g j b c l h k = absurd (not-suc-le-zero l)
+sum-le-but (suc n) f g j b c l h k =
+    by-cases
+    (ℕ-discrete j n)
+    (λ q.
+    let m : f n + b ≤ g n + c = rw q at k in
+    omega (arith, sum-le n f g (λ i l′. h i (omega arith) (omega arith))))
+    (λ ne. omega (arith, sum-le-but n f g j b c (omega arith) (λ i l′. h i (omega arith)) k, h n (omega arith) (omega arith)))
+
+pub sum-zero : (n : ℕ) (f : ℕ → ℕ) → ((i : ℕ) → i < n → f i ≡ 0) → sumBelow n f ≡ 0
+unfolding sumBelow
+sum-zero zero f h = refl
+sum-zero (suc n) f h = omega (arith, sum-zero n f (λ i l. h i (omega arith)), h n (omega arith))
+
+pub sum-term : (n : ℕ) (f : ℕ → ℕ) (i : ℕ) → i < n → f i ≤ sumBelow n f
+sum-term n f i l =
+    omega
+    (arith, sum-le-but n (λ k. 0) f i (f i) 0 l (λ k l′ ne. zero-le) (omega arith))
+
+pub sum-two : (n : ℕ) (f : ℕ → ℕ) (i j : ℕ) → i < n → j < n → i ≢ j → f i + f j ≤ sumBelow n f
+sum-two n f i j l m ne =
+    let only : ℕ → ℕ = λ k. cond (eqb k i) (f k) 0 in
+    let at-i : only i ≡ f i = cond-true (f i) 0 (eq-eqb i i refl) in
+    let at-j : only j ≡ 0 = cond-false (f j) 0 (ne-eqb j i (λ q. ne (sym q))) in
+    omega (arith, sum-term n only i l, sum-le-but n only f j (f j) 0 m (λ k l′ ne′. cond-le (eqb k i) (f k)) (omega arith))
+
+pub sum-some : (n : ℕ) (f : ℕ → ℕ) → 0 < sumBelow n f → (i : ℕ) × (i < n) × (0 < f i)
+unfolding sumBelow
+sum-some zero f h = absurd (omega arith)
+sum-some (suc n) f h =
+    by-cases
+    (ℕ-discrete (f n) 0)
+    (λ z. let (i, l, x) = sum-some n f (omega arith) in (i, omega arith, x))
+    (λ ne. (n, omega arith, omega arith))
+
+-- maxima
+
+pub max-term : (n : ℕ) (f : ℕ → ℕ) (i : ℕ) → i < n → f i ≤ maxBelow n f
+unfolding maxBelow
+max-term zero f i l = absurd (not-suc-le-zero l)
+max-term (suc n) f i l =
+    by-cases
+    (ℕ-discrete i n)
+    (λ q. let m : f i ≡ f n = ap f q in omega arith)
+    (λ ne. omega (arith, max-term n f i (omega arith)))
+
+pub max-least : (n : ℕ) (f : ℕ → ℕ) (b : ℕ) → ((i : ℕ) → i < n → f i ≤ b) → maxBelow n f ≤ b
+unfolding maxBelow
+max-least zero f b h = zero-le
+max-least (suc n) f b h = omega (arith, max-least n f b (λ i l. h i (omega arith)), h n (omega arith))
+
+pub max-le : (n : ℕ) (f g : ℕ → ℕ) → ((i : ℕ) → i < n → f i ≤ g i) → maxBelow n f ≤ maxBelow n g
+max-le n f g h = max-least n f (maxBelow n g) (λ i l. omega (arith, h i l, max-term n g i l))
+
+pub max-eq : (n : ℕ) (f g : ℕ → ℕ) → ((i : ℕ) → i < n → f i ≡ g i) → maxBelow n f ≡ maxBelow n g
+max-eq n f g h = le-antisymm (max-le n f g (λ i l. omega (arith, h i l))) (max-le n g f (λ i l. omega (arith, h i l)))

@@ -1,0 +1,9 @@
+-- The theory of schedules: facts about the definitions of specs/, for any units, gaps, begun activities and floor.
+pub mod Below
+pub mod Load
+pub mod Reflect
+pub mod Agree
+pub mod Moves
+pub mod Makespan
+pub mod Compact
+pub mod Bounds

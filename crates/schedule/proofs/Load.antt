@@ -1,0 +1,178 @@
+-- The activities of a project, the units that they hold on a tick, and the latest end. Loads are compared activity by
+-- activity, also between a project and the part of it that a set of its activities makes.
+use Prim.Native.Nat.{ℕ, _+_, _≤_, _<_}
+use native.Mathlib.Omega.{arith}
+use mathlib.Core.Bool.{Bool, true, cond, _&&_}
+use mathlib.Core.Path.{_≡_, refl}
+use mathlib.Core.Logic.{_≢_}
+use lib.Dec.{leb, ltb}
+use borrow.Author.Tests.{leb-true, ltb-true, le-leb, lt-ltb, eq-eqb, ne-eqb}
+use Rattle.schedule.specs.Below.{sumBelow}
+use Rattle.schedule.specs.Project.{Project}
+use Rattle.schedule.specs.Schedule.{Starts, endOf, runs, load, latestEnd, moved}
+use Rattle.schedule.proofs.Below.{by-bool, both, and-left, and-right, cond-true, cond-false, cond-le, sum-le, sum-le-but, sum-zero, sum-term, sum-some, max-term, max-least}
+
+-- i is an activity of the project.
+pub record Has (p : Project) (i : ℕ) : Type 0 where
+  pub below : i < p .size
+  pub there : p .present i ≡ true
+
+-- Every activity lasts a tick or more.
+abbrev pub Sound : Project → Type 0
+Sound p = (i : ℕ) → Has p i → 1 ≤ p .duration i
+
+-- Every activity is free.
+abbrev pub Unfixed : Project → Type 0
+Unfixed p = (i : ℕ) → Has p i → p .free i ≡ true
+
+-- The same project with the activities of a set only.
+abbrev pub among : Project → (ℕ → Bool) → Project
+among p set =
+    record {
+      size = p .size;
+      present = set;
+      duration = p .duration;
+      precedes = p .precedes;
+      gap = p .gap;
+      resources = p .resources;
+      capacity = p .capacity;
+      units = p .units;
+      free = p .free;
+      floor = p .floor;
+      begun = p .begun;
+    }
+
+-- i runs on tick t.
+abbrev pub Runs : Project → Starts → ℕ → ℕ → Type 0
+Runs p S t i = record { begins : S i ≤ t; ends : t < endOf p S i }
+
+pub runs-of : (p : Project) (S : Starts) (t i : ℕ) → p .present i ≡ true → Runs p S t i → runs p S t i ≡ true
+runs-of p S t i h k = both (both h (le-leb (S i) t (k .begins))) (lt-ltb t (endOf p S i) (k .ends))
+
+pub runs-there : (p : Project) (S : Starts) (t i : ℕ) → runs p S t i ≡ true → p .present i ≡ true
+runs-there p S t i e = and-left (p .present i) (leb (S i) t) (and-left (p .present i && leb (S i) t) (ltb t (endOf p S i)) e)
+
+pub runs-is : (p : Project) (S : Starts) (t i : ℕ) → runs p S t i ≡ true → Runs p S t i
+runs-is p S t i e =
+    record {
+      begins = leb-true (S i) t (and-right (p .present i) (leb (S i) t) (and-left (p .present i && leb (S i) t) (ltb t (endOf p S i)) e));
+      ends = ltb-true t (endOf p S i) (and-right (p .present i && leb (S i) t) (ltb t (endOf p S i)) e);
+    }
+
+-- What i holds of r on tick t: the terms of a load.
+abbrev pub holds : Project → Starts → ℕ → ℕ → ℕ → ℕ
+holds p S t r i = cond (runs p S t i) (p .units i r) 0
+
+pub load-sum : (p : Project) (S : Starts) (t r : ℕ) → load p S t r ≡ sumBelow (p .size) (holds p S t r)
+unfolding load
+load-sum p S t r = refl
+
+pub holds-all : (p : Project) (S : Starts) (t r i : ℕ) → p .present i ≡ true → Runs p S t i → holds p S t r i ≡ p .units i r
+holds-all p S t r i h k = cond-true (p .units i r) 0 (runs-of p S t i h k)
+
+pub holds-some : (p : Project) (S : Starts) (t r i : ℕ) → 0 < holds p S t r i → runs p S t i ≡ true
+holds-some p S t r i h =
+    by-bool (runs p S t i) (λ y. y) (λ z. absurd (omega (arith, cond-false (p .units i r) 0 z)))
+
+pub holds-le : (p : Project) (S : Starts) (t r i : ℕ) → holds p S t r i ≤ p .units i r
+holds-le p S t r i = cond-le (runs p S t i) (p .units i r)
+
+-- What runs in one runs in the other, with the same units.
+pub holds-mono : (p : Project) (F G : ℕ → Bool) (S S′ : Starts) (t t′ r i : ℕ)
+    → (F i ≡ true → Runs p S t i → (G i ≡ true) × Runs p S′ t′ i)
+    → holds (among p F) S t r i ≤ holds (among p G) S′ t′ r i
+holds-mono p F G S S′ t t′ r i f =
+    by-bool
+    (runs (among p F) S t i)
+    (λ y.
+    let (there, k) = f (runs-there (among p F) S t i y) (runs-is (among p F) S t i y) in
+    omega (arith, holds-le (among p F) S t r i, holds-all (among p G) S′ t′ r i there k))
+    (λ z. omega (arith, cond-false (p .units i r) 0 z))
+
+pub load-mono : (p : Project) (F G : ℕ → Bool) (S S′ : Starts) (t t′ r : ℕ)
+    → ((i : ℕ) → i < p .size → F i ≡ true → Runs p S t i → (G i ≡ true) × Runs p S′ t′ i)
+    → load (among p F) S t r ≤ load (among p G) S′ t′ r
+unfolding load
+load-mono p F G S S′ t t′ r f =
+    sum-le (p .size) (holds (among p F) S t r) (holds (among p G) S′ t′ r) (λ i l. holds-mono p F G S S′ t t′ r i (f i l))
+
+-- The same, but for what j may hold more.
+pub load-mono-but : (p : Project) (F G : ℕ → Bool) (S S′ : Starts) (t t′ r j : ℕ)
+    → j < p .size
+    → ((i : ℕ) → i < p .size → i ≢ j → F i ≡ true → Runs p S t i → (G i ≡ true) × Runs p S′ t′ i)
+    → load (among p F) S t r ≤ load (among p G) S′ t′ r + p .units j r
+unfolding load
+load-mono-but p F G S S′ t t′ r j l f =
+    omega (
+      arith,
+      sum-le-but
+          (p .size)
+          (holds (among p F) S t r)
+          (holds (among p G) S′ t′ r)
+          j
+          0
+          (p .units j r)
+          l
+          (λ i l′ ne. holds-mono p F G S S′ t t′ r i (f i l′ ne))
+          (omega (arith, holds-le (among p F) S t r j)),
+    )
+
+pub units-in-load : (p : Project) (S : Starts) (t r i : ℕ) → Has p i → Runs p S t i → p .units i r ≤ load p S t r
+unfolding load
+units-in-load p S t r i h k =
+    omega (arith, sum-term (p .size) (holds p S t r) i (h .below), holds-all p S t r i (h .there) k)
+
+-- A load comes from something that runs.
+pub load-some : (p : Project) (S : Starts) (t r : ℕ) → 0 < load p S t r → (i : ℕ) × Has p i × Runs p S t i
+unfolding load
+load-some p S t r h =
+    let (i, l, k) = sum-some (p .size) (holds p S t r) h in
+    let e : runs p S t i ≡ true = holds-some p S t r i k in
+    (i, record { below = l; there = runs-there p S t i e }, runs-is p S t i e)
+
+-- Ends.
+
+pub end-le : (p : Project) (S : Starts) (i : ℕ) → Has p i → endOf p S i ≤ latestEnd p S
+unfolding latestEnd
+end-le p S i h =
+    let ends : ℕ → ℕ = λ k. cond (p .present k) (endOf p S k) 0 in
+    omega (arith, max-term (p .size) ends i (h .below), cond-true (endOf p S i) 0 (h .there))
+
+pub ends-least : (p : Project) (S : Starts) (b : ℕ) → ((i : ℕ) → Has p i → endOf p S i ≤ b) → latestEnd p S ≤ b
+unfolding latestEnd
+ends-least p S b f =
+    max-least
+    (p .size)
+    (λ k. cond (p .present k) (endOf p S k) 0)
+    b
+    (λ i l.
+    by-bool
+    (p .present i)
+    (λ y. omega (arith, f i (record { below = l; there = y }), cond-true (endOf p S i) 0 y))
+    (λ z. omega (arith, cond-false (endOf p S i) 0 z)))
+
+pub latest-mono : (p : Project) (S S′ : Starts) → ((i : ℕ) → Has p i → S i ≤ S′ i) → latestEnd p S ≤ latestEnd p S′
+latest-mono p S S′ f = ends-least p S (latestEnd p S′) (λ i h. omega (arith, f i h, end-le p S′ i h))
+
+-- From the latest end on nothing runs.
+pub load-after : (p : Project) (S : Starts) (t r : ℕ) → latestEnd p S ≤ t → load p S t r ≡ 0
+unfolding load
+load-after p S t r h =
+    sum-zero
+    (p .size)
+    (holds p S t r)
+    (λ i l.
+    by-bool
+    (runs p S t i)
+    (λ y.
+    let k : Runs p S t i = runs-is p S t i y in
+    absurd (omega (arith, end-le p S i (record { below = l; there = runs-there p S t i y }))))
+    (λ z. cond-false (p .units i r) 0 z))
+
+-- One start changed.
+
+pub moved-same : (S : Starts) (j t : ℕ) → moved S j t j ≡ t
+moved-same S j t = cond-true t (S j) (eq-eqb j j refl)
+
+pub moved-other : (S : Starts) (j t i : ℕ) → i ≢ j → moved S j t i ≡ S i
+moved-other S j t i ne = cond-false t (S i) (ne-eqb i j ne)

@@ -1,0 +1,3 @@
+-- The sessions of a plan.
+pub mod Timetable
+pub mod Pairs

@@ -1,0 +1,25 @@
+-- A timetable holds one start for each of 24 activity numbers, and 65535 for an absent activity. It is a session (a
+-- feasible schedule in the field's words) of a variant if it has the mark exactly at the absent ones and is feasible.
+use Prim.Native.Nat.{ℕ}
+use mathlib.Core.Bool.{Bool, not, Bool·beq, _&&_}
+use mathlib.Core.List.{List}
+use lib.Dec.{eqb}
+use Rattle.plan.specs.Plan.{Plan}
+use Rattle.term.specs.Term.{Term}
+use Rattle.term.specs.Variants.{activities, member}
+use Rattle.schedule.specs.Below.{everyBelow}
+use Rattle.schedule.specs.Schedule.{feasible}
+use Rattle.schedule.specs.Sessions.{startsOf}
+use Rattle.variant.specs.Project.{projectOf}
+
+abbrev pub mark : ℕ
+mark = 65535
+
+abbrev pub places : ℕ
+places = 24
+
+unfoldable pub isMarked : Term → List ℕ → Bool
+isMarked v row = everyBelow places λ i. Bool·beq (eqb (startsOf row i) mark) (not (member i (activities v)))
+
+unfoldable pub isSession : Plan → Term → List ℕ → Bool
+isSession p v row = isMarked v row && feasible (projectOf p v) (startsOf row)

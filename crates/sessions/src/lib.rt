@@ -1,0 +1,1 @@
+// The sessions of a plan: definitions and the facts about them. There is no code here.

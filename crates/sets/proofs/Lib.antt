@@ -1,0 +1,2 @@
+-- Sets of activities: the laws of their bits.
+pub mod Laws

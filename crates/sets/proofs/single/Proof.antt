@@ -1,0 +1,22 @@
+-- `single` meets its contract: nothing is shifted out.
+use mathlib.Core.Path.{_∙_}
+use Prim.Native.Nat.{_^_}
+use native.Mathlib.Nat.{one-mul}
+use lib.Dec.{lit<}
+use lib.Pow.{shl-exact}
+use borrow.Author.Needs.{needs}
+use native.Mathlib.Omega.{arith}
+use Rattle.sets.proofs.single.Statement.{statement}
+use Rattle.sets.proofs.single.Tie as tie
+
+cast-result : tie.Need-cast-result
+cast-result c = search needs
+
+shl-result : tie.Need-shl-result
+shl-result c = search needs
+
+returns : tie.Need-returns
+returns c = shl-exact 1 (c .args .i) 32 (lit< tt) (omega arith) ∙ one-mul (2 ^ c .args .i)
+
+pub single-spec : {M : Type 1} → statement M
+single-spec = tie.close (tie.spec cast-result shl-result returns)

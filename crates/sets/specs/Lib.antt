@@ -1,0 +1,2 @@
+-- Sets of activities as numbers.
+pub mod Sets

@@ -1,0 +1,43 @@
+// Sets of activities: 24 bits, bit i for activity i.
+ghost use mathlib.Core.Path.{_≡_};
+ghost use Prim.Native.Nat.{_-_, _^_, _<_};
+ghost use mathlib.Core.Bool.{true};
+ghost use lib.Bits.{bitOr};
+ghost use Rattle.sets.specs.Sets.{most, has, meet};
+
+// The set of activity i alone.
+pub fn single(i: usize) -> u32
+    requires { ⌜ i < most ⌝ }
+    ensures { λ r. ⌜ r ≡ 2 ^ i ⌝ }
+{
+    1 << i
+}
+
+pub fn contains(set: u32, i: usize) -> bool
+    requires { ⌜ i < most ⌝ }
+    ensures { λ r. ⌜ r ≡ has set i ⌝ }
+{
+    (set >> i) & 1 == 1
+}
+
+// The activities of either set.
+pub fn union(a: u32, b: u32) -> u32
+    ensures { λ r. ⌜ r ≡ bitOr a b ⌝ }
+{
+    a | b
+}
+
+// Have the two sets an activity in common?
+pub fn meets(a: u32, b: u32) -> bool
+    ensures { λ r. ⌜ r ≡ meet a b ⌝ }
+{
+    a & b != 0
+}
+
+// The set less its activity i.
+pub fn without(set: u32, i: usize) -> u32
+    requires { ⌜ (i < most) × (has set i ≡ true) ⌝ }
+    ensures { λ r. ⌜ r ≡ set - 2 ^ i ⌝ }
+{
+    set ^ single(i)
+}

@@ -1,0 +1,2 @@
+-- What the survey of a plan's nodes says.
+pub mod Survey

@@ -1,0 +1,4 @@
+-- Terms, how nodes make one, the variants of a term, and the reduced terms of document 000.
+pub mod Term
+pub mod Variants
+pub mod Reduced

@@ -1,0 +1,1 @@
+// Terms and their variants: definitions and the facts about them. There is no code here.

@@ -1,0 +1,4 @@
+-- Variants: what the definitions imply.
+pub mod Members
+pub mod Pick
+pub mod Picked
