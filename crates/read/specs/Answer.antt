@@ -14,12 +14,12 @@ use Rattle.read.specs.declared.ReadAnswer.{ReadAnswer}
 use Rattle.read.specs.declared.ReadAnswer.the-variants
 use Rattle.read.specs.declared.Judged.{Judged}
 
+abbrev pub answerTo : Verdict → ReadAnswer
+answerTo (accepts p t) = the-variants.Read (length (p .activities)) (length (p .nodes)) (variantCount t)
+answerTo (refuses r) = the-variants.Refused r
+
 unfoldable pub readOf : List ℕ → ReadAnswer
-readOf s =
-    elim (judge s) [
-      | accepts p t ↦ the-variants.Read (length (p .activities)) (length (p .nodes)) (variantCount t)
-      | refuses r ↦ the-variants.Refused r
-    ]
+readOf s = answerTo (judge s)
 
 -- What the program's judgement of a file says: the verdict, and the number of variants of an accepted plan.
 abbrev pub withTerm : Plan → Option Term → Verdict

@@ -18,13 +18,19 @@ pub data Verdict : Type 0 where
   accepts : Plan → Term → Verdict
   refuses : Refusal → Verdict
 
-unfoldable pub judgeTerm : Plan → Option Term → Verdict
+-- By whether some variant has an activity twice, and whether the variants are too many.
+abbrev pub judgeVariants : Plan → Term → Bool → Bool → Verdict
+judgeVariants p t true over = refuses Twice
+judgeVariants p t false true = refuses TooManyVariants
+judgeVariants p t false false = accepts p t
+
+abbrev pub judgeTerm : Plan → Option Term → Verdict
 judgeTerm p none = refuses NotOneTerm
-judgeTerm p (some t) =
-    elim (twice t) [
-      | true ↦ refuses Twice
-      | false ↦ elim (ltb mostVariants (variantCount t)) [ true ↦ refuses TooManyVariants | false ↦ accepts p t ]
-    ]
+judgeTerm p (some t) = judgeVariants p t (twice t) (ltb mostVariants (variantCount t))
+
+abbrev pub judgeResult : Result → Verdict
+judgeResult (Parse.holds p) = judgeTerm p (termOf (p .nodes))
+judgeResult (Parse.refuses r) = refuses r
 
 unfoldable pub judge : List ℕ → Verdict
-judge s = elim (parse s) [ Parse.holds p ↦ judgeTerm p (termOf (p .nodes)) | Parse.refuses r ↦ refuses r ]
+judge s = judgeResult (parse s)

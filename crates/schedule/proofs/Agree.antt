@@ -37,7 +37,7 @@ load-agree-le p S S′ t r a =
     t
     t
     r
-    (λ i l y k. let e : S i ≡ S′ i = a i (record { below = l; there = y }) in (y, omega arith))
+    (λ i l u y k. let e : S i ≡ S′ i = a i (record { below = l; there = y }) in (y, omega arith))
 
 pub load-agree : (p : Project) (S S′ : Starts) (t r : ℕ) → Agree p S S′ → load p S t r ≡ load p S′ t r
 load-agree p S S′ t r a = le-antisymm (load-agree-le p S S′ t r a) (load-agree-le p S′ S t r (agree-sym p S S′ a))
@@ -102,7 +102,7 @@ pub part-has : (p : Project) (F : ℕ → Bool) → ((i : ℕ) → i < p .size �
 part-has p F w i h = record { below = h .below; there = w i (h .below) (h .there) }
 
 pub part-load : (p : Project) (F : ℕ → Bool) (S : Starts) (t r : ℕ) → ((i : ℕ) → i < p .size → F i ≡ true → p .present i ≡ true) → load (among p F) S t r ≤ load p S t r
-part-load p F S t r w = load-mono p F (p .present) S S t t r (λ i l y k. (w i l y, k))
+part-load p F S t r w = load-mono p F (p .present) S S t t r (λ i l u y k. (w i l y, k))
 
 pub part-feasible : (p : Project) (F : ℕ → Bool) (S : Starts) → ((i : ℕ) → i < p .size → F i ≡ true → p .present i ≡ true) → Feasible p S → Feasible (among p F) S
 part-feasible p F S w f =

@@ -1,11 +1,11 @@
 -- Facts about "every number below n", the sum below n and the largest below n. Two sums or two maxima are compared term
 -- by term.
-use Prim.Native.Nat.{ℕ, zero, suc, _+_, _≤_, _<_, zero-le}
+use Prim.Native.Nat.{ℕ, zero, suc, _+_, _*_, _≤_, _<_, zero-le}
 use native.Mathlib.Nat.{not-suc-le-zero, le-antisymm}
-use native.Mathlib.Decide.{ℕ-discrete}
+use native.Mathlib.Decide.{ℕ-discrete, decLe}
 use native.Mathlib.Omega.{arith}
 use mathlib.Core.Bool.{Bool, true, false, cond, _&&_}
-use mathlib.Core.Path.{_≡_, refl, sym, ap, ap₂}
+use mathlib.Core.Path.{_≡_, refl, sym, _∙_, ap, ap₂}
 use mathlib.Core.Logic.{_≢_, by-cases}
 use lib.Dec.{eqb}
 use borrow.Author.Tests.{eq-eqb, ne-eqb}
@@ -138,6 +138,54 @@ sum-some (suc n) f h =
     (ℕ-discrete (f n) 0)
     (λ z. let (i, l, x) = sum-some n f (omega arith) in (i, omega arith, x))
     (λ ne. (n, omega arith, omega arith))
+
+-- At most one term is not 0, and none is above 1.
+pub sum-one : (n : ℕ) (f : ℕ → ℕ) → ((i : ℕ) → i < n → f i ≤ 1) → ((i j : ℕ) → i < n → j < n → 0 < f i → 0 < f j → i ≡ j) → sumBelow n f ≤ 1
+unfolding sumBelow
+sum-one zero f low single = zero-le
+sum-one (suc n) f low single =
+    by-cases
+    (ℕ-discrete (f n) 0)
+    (λ z.
+    omega (arith, sum-one n f (λ i l. low i (omega arith)) (λ i j l m. single i j (omega arith) (omega arith))))
+    (λ ne.
+    let rest : sumBelow n f ≡ 0 =
+    sum-zero
+    n
+    f
+    (λ i l.
+    by-cases
+    (ℕ-discrete (f i) 0)
+    (λ z. z)
+    (λ ne′. absurd (omega (arith, single i n (omega arith) (omega arith) (omega arith) (omega arith)))))
+    in
+    omega (arith, low n (omega arith)))
+
+pub sum-const : (n : ℕ) (f : ℕ → ℕ) (c : ℕ) → ((i : ℕ) → i < n → f i ≤ c) → sumBelow n f ≤ n * c
+unfolding sumBelow
+sum-const zero f c h = zero-le
+sum-const (suc n) f c h = omega (arith, sum-const n f c (λ i l. h i (omega arith)), h n (omega arith))
+
+-- d terms in a row that are at least u.
+pub sum-window : (n : ℕ) (f : ℕ → ℕ) (a d u : ℕ) → a + d ≤ n → ((i : ℕ) → a ≤ i → i < a + d → u ≤ f i) → d * u ≤ sumBelow n f
+unfolding sumBelow
+sum-window n f a zero u l h = omega arith
+sum-window zero f a (suc d) u l h = absurd (omega arith)
+sum-window (suc n) f a (suc d) u l h =
+    by-cases
+    (decLe (a + suc d) n)
+    (λ b. omega (arith, sum-window n f a (suc d) u b h))
+    (λ b. omega (arith, sum-window n f a d u (omega arith) (λ i x y. h i x (omega arith)), h n (omega arith) (omega arith)))
+
+pub sum-add : (n : ℕ) (f g : ℕ → ℕ) → sumBelow n (λ i. f i + g i) ≡ sumBelow n f + sumBelow n g
+unfolding sumBelow
+sum-add zero f g = refl
+sum-add (suc n) f g = omega (arith, sum-add n f g)
+
+pub sum-swap : (m n : ℕ) (f : ℕ → ℕ → ℕ) → sumBelow m (λ i. sumBelow n (f i)) ≡ sumBelow n (λ j. sumBelow m (λ i. f i j))
+unfolding sumBelow
+sum-swap zero n f = sym (sum-zero n (λ j. 0) (λ j l. refl))
+sum-swap (suc m) n f = ap (_+ sumBelow n (f m)) (sum-swap m n f) ∙ sym (sum-add n (λ j. sumBelow m (λ i. f i j)) (f m))
 
 -- maxima
 

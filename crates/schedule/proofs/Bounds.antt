@@ -39,7 +39,7 @@ module _ (p : Project) (S : Starts) (sound : Sound p) (a : Active p S) (i : ℕ)
       let hk : Has p k = record { below = l; there = and-left (p .present k) (p .precedes k i) two } in
       let o : p .precedes k i ≡ true = and-right (p .present k) (p .precedes k i) two in
       let past : t < endOf p S k + p .gap k i = leb-false (endOf p S k + p .gap k i) t late in
-      by-order k hk o (omega (arith, a .is-feasible .ordered k i hk h o, sound k hk)) (omega arith)
+      by-order k hk o (omega (arith, a .is-feasible .ordered k i hk h o, sound .lasts k hk)) (omega arith)
 
   short : everyBelow (p .resources) (room-test p S i t) ≡ false → Held p S i
   unfolding room-test
@@ -177,7 +177,7 @@ module _ (p : Project) (S : Starts) (sound : Sound p) (a : Active p S) where
   ends-by-horizon i h = omega (arith, end-bound (suc (S i)) i h (omega arith), before-all p S (suc (S i)))
 
   pub starts-below-horizon : (i : ℕ) → Has p i → S i < horizon p
-  starts-below-horizon i h = omega (arith, ends-by-horizon i h, sound i h)
+  starts-below-horizon i h = omega (arith, ends-by-horizon i h, sound .lasts i h)
 
   pub latest-by-horizon : latestEnd p S ≤ horizon p
   latest-by-horizon = ends-least p S (horizon p) ends-by-horizon
@@ -230,7 +230,7 @@ plain-horizon p unfixed none =
       cond-true (adds p i) 0 y,
       cond-true (p .duration i) 0 y,
       no-wait p none i h,
-      cond-true {A = ℕ} 0 (p .begun i) (unfixed i h),
+      cond-true {A = ℕ} 0 (p .begun i) (unfixed .all-free i h),
     ))
     (λ z. cond-false (adds p i) 0 z ∙ sym (cond-false (p .duration i) 0 z))))
 

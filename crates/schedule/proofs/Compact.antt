@@ -66,13 +66,13 @@ module _ (p : Project) (S : Starts) (e : ℕ) (above : (i : ℕ) → Has p i →
       t
       (t + e)
       r
-      (λ i l y k. (y, omega (arith, above i (record { below = l; there = y }))))
+      (λ i l u y k. (y, omega (arith, above i (record { below = l; there = y }))))
 
   pub shifted-feasible : Unfixed p → Feasible p S → Feasible p (shifted S e)
   shifted-feasible unfixed f =
       record {
         from-floor = λ i h y. omega (arith, above i h);
-        as-begun = λ i h z. true-not-false (unfixed i h) z;
+        as-begun = λ i h z. true-not-false (unfixed .all-free i h) z;
         ordered = λ i j hi hj o. omega (arith, above i hi, above j hj, f .ordered i j hi hj o);
         fits = λ t r l. omega (arith, shifted-load t r, f .fits (t + e) r l);
       }
@@ -85,7 +85,7 @@ makespan-le : (p : Project) (S : Starts) → Unfixed p → Feasible p S → make
 makespan-le p S unfixed f = go (opening p S)
   where
     go : Opening p S → makespan p S ≤ latestEnd p S - p .floor
-    go (opens k h e) = omega (arith, makespan-is p S, f .from-floor k h (unfixed k h))
+    go (opens k h e) = omega (arith, makespan-is p S, f .from-floor k h (unfixed .all-free k h))
     go (empty no-one z) = omega (arith, makespan-is p S)
 
 pub record Shorter (p : Project) (S : Starts) : Type 0 where
@@ -99,7 +99,7 @@ compact-makespan p S unfixed f = go (opening p S)
   where
     go : Opening p S → Shorter p S
     go (opens k h e) =
-        let low : p .floor ≤ S k = f .from-floor k h (unfixed k h) in
+        let low : p .floor ≤ S k = f .from-floor k h (unfixed .all-free k h) in
         let d : ℕ = S k - p .floor in
         let above : (i : ℕ) → Has p i → p .floor + d ≤ S i = λ i hi. omega (arith, earliest-le p S i hi) in
         let c : Compacted p (shifted S d) = compact p (shifted S d) (shifted-feasible p S d above unfixed f) in
@@ -127,7 +127,7 @@ compact-makespan p S unfixed f = go (opening p S)
 first-at-floor : (p : Project) (S : Starts) → Sound p → Unfixed p → Active p S → (k : ℕ) → Has p k → earliest p S ≡ S k → S k ≡ p .floor
 first-at-floor p S sound unfixed a k h e =
     let f : Feasible p S = a .is-feasible in
-    let low : p .floor ≤ S k = f .from-floor k h (unfixed k h) in
+    let low : p .floor ≤ S k = f .from-floor k h (unfixed .all-free k h) in
     let quiet : (u r : ℕ) → u < S k → load p S u r ≡ 0 =
     λ u r l.
     by-cases
@@ -139,13 +139,13 @@ first-at-floor p S sound unfixed a k h e =
     record {
       lower = low;
       from-floor = omega arith;
-      ready = λ i hi o. absurd (omega (arith, f .ordered i k hi h o, sound i hi, earliest-le p S i hi));
+      ready = λ i hi o. absurd (omega (arith, f .ordered i k hi h o, sound .lasts i hi, earliest-le p S i hi));
       room = λ u r l x y z. omega (arith, quiet u r y, own-fits p S sound f k r h l);
     }
     in
     by-cases
     (decLt (p .floor) (S k))
-    (λ b. absurd (a .least k h (unfixed k h) (p .floor) b (move-earlier p S k (p .floor) h sooner f (unfixed k h))))
+    (λ b. absurd (a .least k h (unfixed .all-free k h) (p .floor) b (move-earlier p S k (p .floor) h sooner f (unfixed .all-free k h))))
     (λ b. omega arith)
 
 pub active-makespan : (p : Project) (S : Starts) → Sound p → Unfixed p → Active p S → makespan p S ≡ latestEnd p S - p .floor

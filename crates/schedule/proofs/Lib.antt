@@ -7,3 +7,8 @@ pub mod Moves
 pub mod Makespan
 pub mod Compact
 pub mod Bounds
+pub mod Lists
+pub mod Box
+pub mod Shortest
+pub mod Device
+pub mod Lower

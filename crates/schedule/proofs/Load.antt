@@ -1,10 +1,11 @@
 -- The activities of a project, the units that they hold on a tick, and the latest end. Loads are compared activity by
 -- activity, also between a project and the part of it that a set of its activities makes.
 use Prim.Native.Nat.{ℕ, _+_, _≤_, _<_}
+use native.Mathlib.Decide.{ℕ-discrete}
 use native.Mathlib.Omega.{arith}
 use mathlib.Core.Bool.{Bool, true, cond, _&&_}
 use mathlib.Core.Path.{_≡_, refl}
-use mathlib.Core.Logic.{_≢_}
+use mathlib.Core.Logic.{_≢_, by-cases}
 use lib.Dec.{leb, ltb}
 use borrow.Author.Tests.{leb-true, ltb-true, le-leb, lt-ltb, eq-eqb, ne-eqb}
 use Rattle.schedule.specs.Below.{sumBelow}
@@ -18,12 +19,12 @@ pub record Has (p : Project) (i : ℕ) : Type 0 where
   pub there : p .present i ≡ true
 
 -- Every activity lasts a tick or more.
-abbrev pub Sound : Project → Type 0
-Sound p = (i : ℕ) → Has p i → 1 ≤ p .duration i
+pub record Sound (p : Project) : Type 0 where
+  pub lasts : (i : ℕ) → Has p i → 1 ≤ p .duration i
 
 -- Every activity is free.
-abbrev pub Unfixed : Project → Type 0
-Unfixed p = (i : ℕ) → Has p i → p .free i ≡ true
+pub record Unfixed (p : Project) : Type 0 where
+  pub all-free : (i : ℕ) → Has p i → p .free i ≡ true
 
 -- The same project with the activities of a set only.
 abbrev pub among : Project → (ℕ → Bool) → Project
@@ -77,30 +78,26 @@ holds-some p S t r i h =
 pub holds-le : (p : Project) (S : Starts) (t r i : ℕ) → holds p S t r i ≤ p .units i r
 holds-le p S t r i = cond-le (runs p S t i) (p .units i r)
 
--- What runs in one runs in the other, with the same units.
-pub holds-mono : (p : Project) (F G : ℕ → Bool) (S S′ : Starts) (t t′ r i : ℕ)
-    → (F i ≡ true → Runs p S t i → (G i ≡ true) × Runs p S′ t′ i)
-    → holds (among p F) S t r i ≤ holds (among p G) S′ t′ r i
+-- What holds units of r in one runs in the other too.
+pub holds-mono : (p : Project) (F G : ℕ → Bool) (S S′ : Starts) (t t′ r i : ℕ) → (0 < p .units i r → F i ≡ true → Runs p S t i → (G i ≡ true) × Runs p S′ t′ i) → holds (among p F) S t r i ≤ holds (among p G) S′ t′ r i
 holds-mono p F G S S′ t t′ r i f =
-    by-bool
-    (runs (among p F) S t i)
-    (λ y.
-    let (there, k) = f (runs-there (among p F) S t i y) (runs-is (among p F) S t i y) in
-    omega (arith, holds-le (among p F) S t r i, holds-all (among p G) S′ t′ r i there k))
-    (λ z. omega (arith, cond-false (p .units i r) 0 z))
+    by-cases
+    (ℕ-discrete (holds (among p F) S t r i) 0)
+    (λ z. omega arith)
+    (λ ne.
+    let some : 0 < holds (among p F) S t r i = omega arith in
+    let y : runs (among p F) S t i ≡ true = holds-some (among p F) S t r i some in
+    let le : holds (among p F) S t r i ≤ p .units i r = holds-le (among p F) S t r i in
+    let (there, k) = f (omega arith) (runs-there (among p F) S t i y) (runs-is (among p F) S t i y) in
+    omega (arith, holds-all (among p G) S′ t′ r i there k))
 
-pub load-mono : (p : Project) (F G : ℕ → Bool) (S S′ : Starts) (t t′ r : ℕ)
-    → ((i : ℕ) → i < p .size → F i ≡ true → Runs p S t i → (G i ≡ true) × Runs p S′ t′ i)
-    → load (among p F) S t r ≤ load (among p G) S′ t′ r
+pub load-mono : (p : Project) (F G : ℕ → Bool) (S S′ : Starts) (t t′ r : ℕ) → ((i : ℕ) → i < p .size → 0 < p .units i r → F i ≡ true → Runs p S t i → (G i ≡ true) × Runs p S′ t′ i) → load (among p F) S t r ≤ load (among p G) S′ t′ r
 unfolding load
 load-mono p F G S S′ t t′ r f =
     sum-le (p .size) (holds (among p F) S t r) (holds (among p G) S′ t′ r) (λ i l. holds-mono p F G S S′ t t′ r i (f i l))
 
 -- The same, but for what j may hold more.
-pub load-mono-but : (p : Project) (F G : ℕ → Bool) (S S′ : Starts) (t t′ r j : ℕ)
-    → j < p .size
-    → ((i : ℕ) → i < p .size → i ≢ j → F i ≡ true → Runs p S t i → (G i ≡ true) × Runs p S′ t′ i)
-    → load (among p F) S t r ≤ load (among p G) S′ t′ r + p .units j r
+pub load-mono-but : (p : Project) (F G : ℕ → Bool) (S S′ : Starts) (t t′ r j : ℕ) → j < p .size → ((i : ℕ) → i < p .size → i ≢ j → F i ≡ true → Runs p S t i → (G i ≡ true) × Runs p S′ t′ i) → load (among p F) S t r ≤ load (among p G) S′ t′ r + p .units j r
 unfolding load
 load-mono-but p F G S S′ t t′ r j l f =
     omega (
@@ -113,7 +110,7 @@ load-mono-but p F G S S′ t t′ r j l f =
           0
           (p .units j r)
           l
-          (λ i l′ ne. holds-mono p F G S S′ t t′ r i (f i l′ ne))
+          (λ i l′ ne. holds-mono p F G S S′ t t′ r i (λ u. f i l′ ne))
           (omega (arith, holds-le (among p F) S t r j)),
     )
 

@@ -5,7 +5,7 @@ use native.Mathlib.Decide.{decLt}
 use native.Mathlib.Omega.{arith}
 use mathlib.Core.Bool.{Bool, true, false, not, cond, _&&_}
 use mathlib.Core.Path.{_≡_, refl, sym, _∙_}
-use mathlib.Core.Logic.{by-cases}
+use mathlib.Core.Logic.{_↔_, by-cases}
 use lib.Dec.{leb, eqb}
 use borrow.Author.Tests.{leb-true, le-leb, eqb-true, eq-eqb, not-true, not-false}
 use Rattle.schedule.specs.Below.{everyBelow, _implies_}
@@ -145,6 +145,9 @@ feasible-of p S f =
     (order-of p S (f .ordered)))
     (fits-of p S (f .fits))
 
+pub feasible-iff : (p : Project) (S : Starts) → (feasible p S ≡ true) ↔ Feasible p S
+feasible-iff p S = (feasible-is p S, feasible-of p S)
+
 -- active
 
 least-test : Project → Starts → ℕ → Bool
@@ -200,6 +203,9 @@ active-of p S a =
     t
     b
     (feasible-is p (moved S j t) f))))))
+
+pub active-iff : (p : Project) (S : Starts) → (active p S ≡ true) ↔ Active p S
+active-iff p S = (active-is p S, active-of p S)
 
 -- A feasible schedule that is not active has a free activity that can start sooner.
 pub record Sooner (p : Project) (S : Starts) : Type 0 where

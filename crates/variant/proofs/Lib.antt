@@ -2,3 +2,7 @@
 pub mod Members
 pub mod Pick
 pub mod Picked
+pub mod Order
+pub mod Dissolve
+pub mod Fit
+pub mod RoundTrip

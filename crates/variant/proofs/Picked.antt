@@ -1,16 +1,18 @@
 -- What a variant is made of: its activities are among the term's, its nodes no more, it has no x, and it is full if the
 -- term is.
-use Prim.Native.Nat.{ℕ, zero, suc, _+_, _-_, _*_, _/_, _%_, _≤_, _<_}
+use Prim.Native.Nat.{ℕ, suc, _+_, _-_, _/_, _%_, _≤_, _<_}
 use mathlib.Core.Bool.{Bool, true, false, _&&_, and-eq-true-iff}
-use mathlib.Core.List.{List, [], _∷_, _++_}
-use mathlib.Core.Path.{_≡_, refl, sym, ap, ap₂, _∙_}
+use mathlib.Core.List.{List, _++_}
+use mathlib.Core.Path.{_≡_, refl, ap, _∙_}
 use native.Mathlib.Nat.{mod-lt, div-lt-iff-lt-mul}
 use native.Mathlib.Omega.{arith}
 use borrow.Author.Tests.{ltb-true, ltb-false}
 use lib.Dec.{ltb}
 use lib.ListN.{length, length-append}
+use Rattle.format.proofs.Tests.{both, first, second}
 use Rattle.term.specs.Term.{Term, Forest, act, seq, pll, xor, nil, cons, size, nodes, nodesOfAll}
 use Rattle.term.specs.Variants.{activities, activitiesOfAll, member}
+use Rattle.term.specs.Reduced.{xorFree, xorFreeAll}
 use Rattle.term.proofs.Model.{count, product, total, full, fullAll}
 use Rattle.variant.proofs.Members.{member-left, member-right, member-either}
 use Rattle.variant.proofs.Pick.{pick, pickEach, pickOne, pos-right, choice}
@@ -27,7 +29,8 @@ pub record Kept (P : Term → Term → Type 0) (Each : Forest → Forest → Typ
   pub there : (t u : Term) (f : Forest) → One f u → One (cons t f) u
 
 module _ {P : Term → Term → Type 0} {Each : Forest → Forest → Type 0} {One : Forest → Term → Type 0} (k : Kept P Each One) where
-  either : (t : Term) (f : Forest) (v : ℕ) → v < count t + total f → (v < count t → P t (pick t v)) → (v - count t < total f → One f (pickOne f (v - count t)))
+  either : (t : Term) (f : Forest) (v : ℕ) → v < count t + total f → (v < count t → P t (pick t v))
+      → (v - count t < total f → One f (pickOne f (v - count t)))
       → (b : Bool) → ltb v (count t) ≡ b → One (cons t f) (choice b (pick t v) (pickOne f (v - count t)))
   either t f v h first rest true e = k .here t (pick t v) f (first (ltb-true v (count t) e))
   either t f v h first rest false e = let l : count t ≤ v = ltb-false v (count t) e in k .there t (pickOne f (v - count t)) f (rest (omega arith))
@@ -57,10 +60,14 @@ module _ {P : Term → Term → Type 0} {Each : Forest → Forest → Type 0} {O
 abbrev Within : List ℕ → List ℕ → Type 0
 Within xs ys = (i : ℕ) → member i xs ≡ true → member i ys ≡ true
 
-both : (xs ys zs ws : List ℕ) → Within xs ys → Within zs ws → Within (xs ++ zs) (ys ++ ws)
-both xs ys zs ws f g i e = member-either i xs zs (λ m. member-left i ys ws (f i m)) (λ m. member-right i ys ws (g i m)) e
+within-both : (xs ys zs ws : List ℕ) → Within xs ys → Within zs ws → Within (xs ++ zs) (ys ++ ws)
+within-both xs ys zs ws f g i e = member-either i xs zs (λ m. member-left i ys ws (f i m)) (λ m. member-right i ys ws (g i m)) e
 
-activities-kept : Kept (λ t u. Within (activities u) (activities t)) (λ f g. Within (activitiesOfAll g) (activitiesOfAll f)) (λ f u. Within (activities u) (activitiesOfAll f))
+activities-kept :
+    Kept
+    (λ t u. Within (activities u) (activities t))
+    (λ f g. Within (activitiesOfAll g) (activitiesOfAll f))
+    (λ f u. Within (activities u) (activitiesOfAll f))
 unfolding activities
 activities-kept =
     record {
@@ -69,7 +76,7 @@ activities-kept =
       of-pll = λ f g w. w;
       of-xor = λ f u w. w;
       of-nil = λ i e. e;
-      of-cons = λ t u f g p q. both (activities u) (activities t) (activitiesOfAll g) (activitiesOfAll f) p q;
+      of-cons = λ t u f g p q. within-both (activities u) (activities t) (activitiesOfAll g) (activitiesOfAll f) p q;
       here = λ t u f w i e. member-left i (activities t) (activitiesOfAll f) (w i e);
       there = λ t u f w i e. member-right i (activities t) (activitiesOfAll f) (w i e);
     }
@@ -104,17 +111,6 @@ pub pick-nodes : (t : Term) (v : ℕ) → v < count t → length (nodes (pick t 
 pick-nodes t v h = kept nodes-kept t v h
 
 -- No x.
-unfoldable mutual
-  pub xorFree : Term → Bool
-  xorFree (act i) = true
-  xorFree (seq f) = xorFreeAll f
-  xorFree (pll f) = xorFreeAll f
-  xorFree (xor f) = false
-
-  pub xorFreeAll : Forest → Bool
-  xorFreeAll nil = true
-  xorFreeAll (cons t f) = xorFree t && xorFreeAll f
-
 xorFree-kept : Kept (λ t u. xorFree u ≡ true) (λ f g. xorFreeAll g ≡ true) (λ f u. xorFree u ≡ true)
 unfolding xorFree
 xorFree-kept =
@@ -124,7 +120,7 @@ xorFree-kept =
       of-pll = λ f g e. e;
       of-xor = λ f u e. e;
       of-nil = refl;
-      of-cons = λ t u f g p q. and-eq-true-iff (xorFree u) (xorFreeAll g) .1 (p, q);
+      of-cons = λ t u f g p q. both p q;
       here = λ t u f e. e;
       there = λ t u f e. e;
     }
@@ -139,7 +135,7 @@ FullAs f g = (size g ≡ size f) × (fullAll f ≡ true → fullAll g ≡ true)
 group-full : (f g : Forest) → FullAs f g → ltb 0 (size f) && fullAll f ≡ true → ltb 0 (size g) && fullAll g ≡ true
 group-full f g (s, below) e =
     let (some, all) = and-eq-true-iff (ltb 0 (size f)) (fullAll f) .0 e in
-    and-eq-true-iff (ltb 0 (size g)) (fullAll g) .1 (ap (ltb 0) s ∙ some, below all)
+    both (ap (ltb 0) s ∙ some) (below all)
 
 full-kept :
     Kept
@@ -152,16 +148,16 @@ full-kept =
       of-act = λ i e. e;
       of-seq = group-full;
       of-pll = group-full;
-      of-xor = λ f u below e. below (and-eq-true-iff (ltb 0 (size f)) (fullAll f) .0 e .1);
+      of-xor = λ f u below e. below (second (ltb 0 (size f)) (fullAll f) e);
       of-nil = (refl, λ e. e);
       of-cons = λ t u f g p q. (
         ap suc (q .0),
         λ e.
             let (a, b) = and-eq-true-iff (full t) (fullAll f) .0 e in
-            and-eq-true-iff (full u) (fullAll g) .1 (p a, q .1 b),
+            both (p a) (q .1 b),
       );
-      here = λ t u f below e. below (and-eq-true-iff (full t) (fullAll f) .0 e .0);
-      there = λ t u f below e. below (and-eq-true-iff (full t) (fullAll f) .0 e .1);
+      here = λ t u f below e. below (first (full t) (fullAll f) e);
+      there = λ t u f below e. below (second (full t) (fullAll f) e);
     }
 
 pub pick-full : (t : Term) (v : ℕ) → v < count t → full t ≡ true → full (pick t v) ≡ true

@@ -1,0 +1,24 @@
+-- A plan whose text is as long as a text can be: every number has the most digits that it can have.
+use mathlib.Core.Bool.{true}
+use mathlib.Core.List.{_∷_}
+use mathlib.Core.Path.{_≡_, refl}
+use lib.ListN.{length, replicate}
+use Rattle.plan.specs.Limits.{longest}
+use Rattle.plan.specs.Plan.{activity, xor, Plan, isPlan}
+use Rattle.format.specs.Lines.{written, filled}
+use Rattle.format.specs.Text.{actLines, nodeLines, text}
+
+abbrev pub longestPlan : Plan
+longestPlan =
+    record {
+      resources = 16;
+      activities = replicate 24 (record { resource = 15; duration = 2000 });
+      nodes = xor 63 ∷ replicate 63 (activity 23);
+    }
+
+pub longest-is-plan : isPlan longestPlan ≡ true
+longest-is-plan = refl
+
+pub longest-length : length (text longestPlan) ≡ longest
+unfolding written filled actLines nodeLines text
+longest-length = refl

@@ -1,0 +1,126 @@
+-- The lines of a plan file, each read exactly.
+use Prim.Native.Nat.{ℕ, _≤_, _<_, _^_}
+use mathlib.Core.Bool.{Bool, true, _&&_, false≢true}
+use mathlib.Core.List.{List, [], _∷_}
+use mathlib.Core.Path.{_≡_, refl, ap₂, _∙_}
+use native.Mathlib.Omega.{arith}
+use borrow.Author.Tests.{lt-ltb, eqb-true}
+use lib.ListN.{length, getD}
+use Rattle.plan.specs.Limits.{
+  mostDigits,
+  isEdition,
+  isResourceCount,
+  isActCount,
+  isNodeCount,
+  editionForm,
+  resourcesForm,
+  actsForm,
+  actForm,
+  nodesForm,
+  nodeForm,
+}
+use Rattle.plan.specs.Plan.{Activity, Node, letterOf, valueOf, isLetter, isActivity, isNode}
+use Rattle.format.specs.Lines.{filled}
+use Rattle.format.specs.Text.{actLines, nodeLines}
+use Rattle.format.specs.Parse.{aLine, theLines, number, activity-of, node-of}
+use Rattle.format.proofs.Tests.{both, first, between-facts}
+use Rattle.format.proofs.Plans.{
+  resource-below,
+  duration-between,
+  number-most,
+  node-same,
+  letter-is,
+  Letter,
+  letter-cases,
+  letter-same,
+  number-same,
+}
+use Rattle.format.proofs.Forms.{isForm, isShort, fitting, slots, fitting-count}
+use Rattle.format.proofs.Readers.{Exact, line-exact, Count, Joined, lines-exact}
+
+-- One value, and two.
+one-value : (vs : List ℕ) → length vs ≡ 1 → getD vs 0 0 ∷ [] ≡ vs
+one-value [] e = absurd (omega arith)
+one-value (v ∷ []) e = refl
+one-value (v ∷ w ∷ vs) e = absurd (omega arith)
+
+two-values : (vs : List ℕ) → length vs ≡ 2 → getD vs 0 0 ∷ getD vs 1 0 ∷ [] ≡ vs
+two-values [] e = absurd (omega arith)
+two-values (v ∷ []) e = absurd (omega arith)
+two-values (v ∷ w ∷ []) e = refl
+two-values (v ∷ w ∷ u ∷ vs) e = absurd (omega arith)
+
+short : (n : ℕ) → n < 10 ^ mostDigits → (isShort n && true) ≡ true
+short n h = both (lt-ltb n (10 ^ mostDigits) h) refl
+
+abbrev pub Number : List ℕ → (ℕ → Bool) → Type 0
+Number form ok = Exact (aLine form number ok) (λ n. filled form (n ∷ [])) (λ n. ok n ≡ true)
+
+number-line : (form : List ℕ) (ok : ℕ → Bool) → isForm form ≡ true → slots form ≡ 1
+    → ((n : ℕ) → ok n ≡ true → fitting form (n ∷ []) ≡ true) → Number form ok
+number-line form ok formed count fits =
+    line-exact form number ok (λ n. n ∷ []) formed (λ n. refl) (λ vs fit. one-value vs (fitting-count form vs fit ∙ count)) fits
+
+pub edition-line : Number editionForm isEdition
+unfolding fitting
+edition-line = number-line editionForm isEdition refl refl (λ n e. short n (omega (arith, eqb-true n 1 e)))
+
+pub resources-line : Number resourcesForm isResourceCount
+unfolding fitting
+resources-line = number-line resourcesForm isResourceCount refl refl (λ n e. short n (omega (arith, between-facts 1 16 n e)))
+
+pub acts-line : Number actsForm isActCount
+unfolding fitting
+acts-line = number-line actsForm isActCount refl refl (λ n e. short n (omega (arith, between-facts 1 24 n e)))
+
+pub nodes-line : Number nodesForm isNodeCount
+unfolding fitting
+nodes-line = number-line nodesForm isNodeCount refl refl (λ n e. short n (omega (arith, between-facts 1 64 n e)))
+
+-- An activity and a node.
+abbrev pub actLine : Activity → List ℕ
+actLine a = filled actForm (a .resource ∷ a .duration ∷ [])
+
+abbrev pub nodeLine : Node → List ℕ
+nodeLine m = filled nodeForm (letterOf m ∷ valueOf m ∷ [])
+
+pub act-line : (r : ℕ) → r ≤ 16
+    → Exact (aLine actForm activity-of (isActivity r)) actLine (λ a. isActivity r a ≡ true)
+unfolding fitting
+act-line r h =
+    line-exact actForm activity-of (isActivity r) (λ a. a .resource ∷ a .duration ∷ []) refl (λ a. refl)
+    (λ vs fit. two-values vs (fitting-count actForm vs fit))
+    (λ a e.
+    both
+    (lt-ltb (a .resource) (10 ^ mostDigits) (omega (arith, resource-below r a e)))
+    (short (a .duration) (omega (arith, duration-between r a e))))
+
+letter-first : (vs : List ℕ) → fitting nodeForm vs ≡ true → isLetter (getD vs 0 0) ≡ true
+unfolding fitting
+letter-first [] fit = absurd (false≢true fit)
+letter-first (v ∷ vs) fit = first _ _ fit
+
+pub node-line : (n : ℕ) → n ≤ 24
+    → Exact (aLine nodeForm node-of (isNode n)) nodeLine (λ m. isNode n m ≡ true)
+unfolding fitting
+node-line n h =
+    line-exact nodeForm node-of (isNode n) (λ m. letterOf m ∷ valueOf m ∷ []) refl node-same
+    (λ vs fit.
+    let b : Letter (getD vs 0 0) = letter-cases (getD vs 0 0) (letter-first vs fit) in
+    ap₂ (λ l v. l ∷ v ∷ []) (letter-same b (getD vs 1 0)) (number-same b (getD vs 1 0)) ∙ two-values vs (fitting-count nodeForm vs fit))
+    (λ m e. both (letter-is m) (short (valueOf m) (omega (arith, number-most n m h e))))
+
+pub act-joined : Joined actLine actLines
+unfolding actLines
+act-joined = record { nil = refl; cons = λ a rest. refl }
+
+pub node-joined : Joined nodeLine nodeLines
+unfolding nodeLines
+node-joined = record { nil = refl; cons = λ m rest. refl }
+
+-- The activities and the nodes, by their counts.
+pub act-lines : (r n : ℕ) → r ≤ 16 → Exact (theLines n (aLine actForm activity-of (isActivity r))) actLines (Count (isActivity r) n)
+act-lines r n h = lines-exact (isActivity r) (act-line r h) act-joined n
+
+pub node-lines : (n m : ℕ) → n ≤ 24 → Exact (theLines m (aLine nodeForm node-of (isNode n))) nodeLines (Count (isNode n) m)
+node-lines n m h = lines-exact (isNode n) (node-line n h) node-joined m

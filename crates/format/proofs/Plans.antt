@@ -1,0 +1,111 @@
+-- `isPlan` by its parts, the ranges of an activity and a node, and a node's letter and number.
+use Prim.Native.Nat.{ℕ, _≤_, _<_}
+use mathlib.Core.Bool.{Bool, true, false, _&&_, false≢true}
+use mathlib.Core.Path.{_≡_, refl}
+use native.Mathlib.Omega.{arith}
+use borrow.Author.Tests.{ltb-true, eqb-true}
+use lib.Dec.{ltb, eqb}
+use lib.ListN.{length}
+use Rattle.plan.specs.Limits.{isResourceCount, isActCount, isDuration, isNodeCount}
+use Rattle.plan.specs.Plan.{
+  Activity,
+  Node,
+  activity,
+  seq,
+  pll,
+  xor,
+  Plan,
+  letterOf,
+  valueOf,
+  isLetter,
+  nodeOf,
+  isActivity,
+  isNode,
+  every,
+  isPlan,
+}
+use Rattle.format.proofs.Tests.{by-test, both, first, second, between-facts}
+
+pub record Sound (p : Plan) : Type 0 where
+  pub resources : isResourceCount (p .resources) ≡ true
+  pub acts : isActCount (length (p .activities)) ≡ true
+  pub activities : every (isActivity (p .resources)) (p .activities) ≡ true
+  pub nodeCount : isNodeCount (length (p .nodes)) ≡ true
+  pub nodes : every (isNode (length (p .activities))) (p .nodes) ≡ true
+
+five :
+    (a b c d e : Bool) → (a && b && c && d && e) ≡ true
+    → (a ≡ true) × (b ≡ true) × (c ≡ true) × (d ≡ true) × (e ≡ true)
+five true true true true e t = (refl, refl, refl, refl, t)
+five true true true false e t = absurd (false≢true t)
+five true true false d e t = absurd (false≢true t)
+five true false c d e t = absurd (false≢true t)
+five false b c d e t = absurd (false≢true t)
+
+module _ (p : Plan) where
+  pub plan-sound : isPlan p ≡ true → Sound p
+  plan-sound t =
+      let (a, b, c, d, e) =
+      five
+      (isResourceCount (p .resources))
+      (isActCount (length (p .activities)))
+      (every (isActivity (p .resources)) (p .activities))
+      (isNodeCount (length (p .nodes)))
+      (every (isNode (length (p .activities))) (p .nodes))
+      t in
+      record { resources = a; acts = b; activities = c; nodeCount = d; nodes = e }
+
+  pub sound-plan : Sound p → isPlan p ≡ true
+  sound-plan h = both (both (both (both (h .resources) (h .acts)) (h .activities)) (h .nodeCount)) (h .nodes)
+
+module _ (r : ℕ) (a : Activity) (e : isActivity r a ≡ true) where
+  pub resource-below : a .resource < r
+  resource-below = ltb-true (a .resource) r (first (ltb (a .resource) r) (isDuration (a .duration)) e)
+
+  pub duration-between : (1 ≤ a .duration) × (a .duration ≤ 2000)
+  duration-between = between-facts 1 2000 (a .duration) (second (ltb (a .resource) r) (isDuration (a .duration)) e)
+
+pub number-most : (n : ℕ) (m : Node) → n ≤ 24 → isNode n m ≡ true → valueOf m ≤ 63
+number-most n (activity i) h e = omega (arith, ltb-true i n e)
+number-most n (seq k) h e = between-facts 1 63 k e .1
+number-most n (pll k) h e = between-facts 1 63 k e .1
+number-most n (xor k) h e = between-facts 1 63 k e .1
+
+-- A node is its letter and its number.
+pub node-same : (n : Node) → nodeOf (letterOf n) (valueOf n) ≡ n
+node-same (activity i) = refl
+node-same (seq k) = refl
+node-same (pll k) = refl
+node-same (xor k) = refl
+
+pub letter-is : (n : Node) → isLetter (letterOf n) ≡ true
+letter-is (activity i) = refl
+letter-is (seq k) = refl
+letter-is (pll k) = refl
+letter-is (xor k) = refl
+
+-- The four letters.
+pub data Letter : ℕ → Type 0 where
+  a : Letter 97
+  s : Letter 115
+  p : Letter 112
+  x : Letter 120
+
+pub letter-cases : (b : ℕ) → isLetter b ≡ true → Letter b
+letter-cases b e =
+    by-test (eqb b 97) (λ q. rw (eqb-true b 97 q) a) λ q₁.
+    by-test (eqb b 115) (λ q. rw (eqb-true b 115 q) s) λ q₂.
+    by-test (eqb b 112) (λ q. rw (eqb-true b 112 q) p) λ q₃.
+    rw (eqb-true b 120 (rw (q₁, q₂, q₃) at e)) x
+
+pub letter-same : {b : ℕ} → Letter b → (v : ℕ) → letterOf (nodeOf b v) ≡ b
+letter-same a v = refl
+letter-same s v = refl
+letter-same p v = refl
+letter-same x v = refl
+
+pub number-same : {b : ℕ} → Letter b → (v : ℕ) → valueOf (nodeOf b v) ≡ v
+number-same a v = refl
+number-same s v = refl
+number-same p v = refl
+number-same x v = refl

@@ -1,0 +1,122 @@
+-- Readers of lines, each with what it reads: it takes just the bytes that say a thing, and says that thing.
+use Prim.Native.Nat.{ℕ, zero, suc, _+_}
+use mathlib.Core.Bool.{Bool, true}
+use mathlib.Core.List.{List, [], _∷_, _++_, append-assoc}
+use mathlib.Core.Option.{Option, none, some}
+use mathlib.Core.Path.{_≡_, refl, sym, ap, ap₂, _∙_}
+use native.Mathlib.Omega.{arith}
+use lib.ListN.{length}
+use Rattle.plan.specs.Plan.{every}
+use Rattle.plan.specs.declared.Refusal.{Refusal}
+use Rattle.plan.specs.declared.Refusal.the-variants.{Form, Range}
+use Rattle.format.specs.Lines.{Found, found, filled}
+use Rattle.format.specs.Parse.{Outcome, read, stop, Reader, aLine, theLines}
+use Rattle.format.proofs.Tests.{by-test, choose, chosen-first, chosen-second, both, first, second}
+use Rattle.format.proofs.Forms.{isForm, fitting, found-filled, Filled, filled-found}
+
+pub stopped : {A : Type 0} {r : Refusal} {a : A} {line : ℕ} {s : List ℕ} → stop r ≡ read a line s → ⊥
+stopped e = let z : _≡_ {A = ℕ} 0 1 = cc in omega arith
+
+-- One reader, then another.
+module _ {A B : Type 0} (next : A → Reader B) where
+  abbrev onward : Outcome A → Outcome B
+  onward o = elim o [ read a line s ↦ next a line s | stop r ↦ stop r ]
+
+  pub then-read : {o : Outcome A} {a : A} {line : ℕ} {s : List ℕ} → o ≡ read a line s → onward o ≡ next a line s
+  then-read e = ap onward e
+
+  pub both-read : {C : Type 0} (o : Outcome A) {b : B} {line : ℕ} {s : List ℕ} → onward o ≡ read b line s
+      → ((a : A) (line₁ : ℕ) (s₁ : List ℕ) → o ≡ read a line₁ s₁ → next a line₁ s₁ ≡ read b line s → C) → C
+  both-read (read a line₁ s₁) e then = then a line₁ s₁ refl e
+  both-read (stop r) e then = absurd (stopped e)
+
+-- `reader` takes what `write` gives, for each thing that is `Ok`, whatever follows; and nothing else.
+pub record Exact {A : Type 0} (reader : Reader A) (write : A → List ℕ) (Ok : A → Type 0) : Type 0 where
+  pub reads : (a : A) (line : ℕ) (s : List ℕ) → Ok a → (line′ : ℕ) × (reader line (write a ++ s) ≡ read a line′ s)
+  pub wrote : (line : ℕ) (s : List ℕ) (a : A) (line′ : ℕ) (s′ : List ℕ) → reader line s ≡ read a line′ s′ → (Ok a) × (s ≡ write a ++ s′)
+
+-- A line, where its values say one thing and that thing has those values.
+module _ {A : Type 0} (form : List ℕ) (make : List ℕ → A) (ok : A → Bool) where
+  abbrev answered : ℕ → Option Found → Outcome A
+  answered line o =
+      elim o [
+        | none ↦ stop (Form line)
+        | some f ↦ choose (ok (make (f .values))) (read (make (f .values)) (line + 1) (f .rest)) (stop (Range line))
+      ]
+
+  answer : (line : ℕ) (s : List ℕ) → aLine form make ok line s ≡ answered line (found form s)
+  unfolding aLine
+  answer line s = refl
+
+  module _ (values : A → List ℕ)
+      (formed : isForm form ≡ true)
+      (same : (a : A) → make (values a) ≡ a)
+      (back : (vs : List ℕ) → fitting form vs ≡ true → values (make vs) ≡ vs)
+      (fits : (a : A) → ok a ≡ true → fitting form (values a) ≡ true)
+    where
+      says : (line : ℕ) (s : List ℕ) (a : A) (line′ : ℕ) (s′ : List ℕ) (o : Option Found) → found form s ≡ o → answered line o ≡ read a line′ s′
+          → (ok a ≡ true) × (s ≡ filled form (values a) ++ s′)
+      says line s a line′ s′ none q e = absurd (stopped e)
+      says line s a line′ s′ (some f) q e =
+          by-test (ok (make (f .values)))
+          (λ v.
+          let m : Filled form s f = filled-found form s f q in
+          let e′ : read (make (f .values)) (line + 1) (f .rest) ≡ read a line′ s′ = sym (chosen-first _ _ v) ∙ e in
+          let ea : make (f .values) ≡ a = cc in
+          let es : f .rest ≡ s′ = cc in
+          (rw ea at v, m .bytes ∙ ap₂ (λ vs t. filled form vs ++ t) (sym (back (f .values) (m .fits)) ∙ ap values ea) es))
+          (λ v. absurd (stopped (sym (chosen-second _ _ v) ∙ e)))
+
+      pub line-exact : Exact (aLine form make ok) (λ a. filled form (values a)) (λ a. ok a ≡ true)
+      line-exact =
+          record {
+            reads =
+                λ a line s k. (
+                  line + 1,
+                  answer line (filled form (values a) ++ s)
+                      ∙ rw (found-filled form (values a) s formed (fits a k)) (rw (same a) (chosen-first _ _ k)),
+                );
+            wrote = λ line s a line′ s′ e. says line s a line′ s′ (found form s) refl (sym (answer line s) ∙ e);
+          }
+
+-- So many things, each `ok`, and their lines one behind the other.
+abbrev pub Count : {A : Type 0} → (A → Bool) → ℕ → List A → Type 0
+Count ok n xs = (length xs ≡ n) × (every ok xs ≡ true)
+
+pub record Joined {A : Type 0} (write : A → List ℕ) (writes : List A → List ℕ) : Type 0 where
+  pub nil : writes [] ≡ []
+  pub cons : (x : A) (xs : List A) → writes (x ∷ xs) ≡ write x ++ writes xs
+
+module _ {A : Type 0} {reader : Reader A} {write : A → List ℕ} {writes : List A → List ℕ}
+    (ok : A → Bool) (exact : Exact reader write (λ a. ok a ≡ true)) (joined : Joined write writes)
+  where
+    lines-read : (n : ℕ) (xs : List A) (line : ℕ) (s : List ℕ) → Count ok n xs
+        → (line′ : ℕ) × (theLines n reader line (writes xs ++ s) ≡ read xs line′ s)
+    unfolding theLines
+    lines-read zero [] line s k = (line, rw (joined .nil))
+    lines-read zero (x ∷ xs) line s k = absurd (omega arith)
+    lines-read (suc n) [] line s k = absurd (omega arith)
+    lines-read (suc n) (x ∷ xs) line s k =
+        let (line₁, here) = exact .reads x line (writes xs ++ s) (first (ok x) (every ok xs) (k .1)) in
+        let (line₂, there) = lines-read n xs line₁ s (omega arith, second (ok x) (every ok xs) (k .1)) in
+        (line₂, rw (joined .cons x xs, append-assoc) (then-read _ here ∙ then-read _ there))
+
+    lines-wrote : (n line : ℕ) (s : List ℕ) (xs : List A) (line′ : ℕ) (s′ : List ℕ) → theLines n reader line s ≡ read xs line′ s′
+        → Count ok n xs × (s ≡ writes xs ++ s′)
+    unfolding theLines
+    lines-wrote zero line s xs line′ s′ e =
+        let ex : [] ≡ xs = cc in
+        let es : s ≡ s′ = cc in
+        rw (← ex) ((refl, refl), rw (joined .nil) es)
+    lines-wrote (suc n) line s xs line′ s′ e =
+        both-read _ (reader line s) e λ y line₁ s₁ here e₁.
+        both-read _ (theLines n reader line₁ s₁) e₁ λ ys line₂ s₂ there e₂.
+        let one : (ok y ≡ true) × (s ≡ write y ++ s₁) = exact .wrote line s y line₁ s₁ here in
+        let more : Count ok n ys × (s₁ ≡ writes ys ++ s₂) = lines-wrote n line₁ s₁ ys line₂ s₂ there in
+        let ex : y ∷ ys ≡ xs = cc in
+        let es : s₂ ≡ s′ = cc in
+        rw (← ex, ← es, joined .cons y ys, append-assoc)
+        ((ap suc (more .0 .0), both (one .0) (more .0 .1)), one .1 ∙ ap (λ t. write y ++ t) (more .1))
+
+    pub lines-exact : (n : ℕ) → Exact (theLines n reader) writes (Count ok n)
+    lines-exact n = record { reads = lines-read n; wrote = lines-wrote n }

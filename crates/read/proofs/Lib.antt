@@ -1,0 +1,3 @@
+-- What is accepted, and READ as a walk of the term computes it.
+pub mod Accepts
+pub mod Model
