@@ -54,14 +54,15 @@ nodes-valid : (p q : Plan) (t : Term) (o : Option Term) → termOf (p .nodes) �
 nodes-valid p q t none eo e r = absurd (never e)
 nodes-valid p q t (some u) eo e r =
     let h = term-valid p q t u (twice u) (ltb mostVariants (variantCount u)) refl refl e in
-    let at : termOf (q .nodes) ≡ some t = subst (λ (x : Plan). termOf (x .nodes) ≡ some t) (h .0) (eo ∙ ap some (h .1)) in
-    (h .0,
+    let at : termOf (q .nodes) ≡ some t = subst (λ (x : Plan). termOf (x .nodes) ≡ some t) (h .0) (eo ∙ ap some (h .1)) in (
+      h .0,
       record {
         ranges = subst (λ (x : Plan). isPlan x ≡ true) (h .0) r;
         term = at;
         once = subst (λ (x : Term). twice x ≡ false) (h .1) (h .2);
-        few = subst (λ (x : Term). variantCount x ≤ mostVariants) (h .1) (h .3)
-      })
+        few = subst (λ (x : Term). variantCount x ≤ mostVariants) (h .1) (h .3);
+      },
+    )
 
 result-valid : (s : List ℕ) (q : Plan) (t : Term) (o : Result) → parse s ≡ o → judgeResult o ≡ accepts q t → Valid q t × (s ≡ text q)
 result-valid s q t (Parse.refuses r) eo e = absurd (never e)

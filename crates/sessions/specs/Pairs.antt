@@ -8,7 +8,7 @@ use Rattle.term.specs.Term.{Term}
 use Rattle.term.specs.Variants.{variantCount}
 use Rattle.schedule.specs.Sessions.{sessions, gather}
 use Rattle.variant.specs.Project.{projectOf, variantAt}
-use Rattle.sessions.specs.Timetable.{mark}
+use Rattle.timetable.specs.Mark.{mark}
 
 unfoldable pub pairs : Plan → Term → List (List ℕ)
 pairs p t = gather (variantCount t) λ v. map (v ∷_) (sessions (projectOf p (variantAt t v)) mark)

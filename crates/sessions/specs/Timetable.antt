@@ -1,5 +1,5 @@
--- A timetable holds one start for each of 24 activity numbers, and 65535 for an absent activity. It is a session (a
--- feasible schedule in the field's words) of a variant if it has the mark exactly at the absent ones and is feasible.
+-- A timetable is a session (a feasible schedule in the field's words) of a variant if it has the mark exactly at the
+-- absent activities and is feasible.
 use Prim.Native.Nat.{ℕ}
 use mathlib.Core.Bool.{Bool, not, Bool·beq, _&&_}
 use mathlib.Core.List.{List}
@@ -11,12 +11,7 @@ use Rattle.schedule.specs.Below.{everyBelow}
 use Rattle.schedule.specs.Schedule.{feasible}
 use Rattle.schedule.specs.Sessions.{startsOf}
 use Rattle.variant.specs.Project.{projectOf}
-
-abbrev pub mark : ℕ
-mark = 65535
-
-abbrev pub places : ℕ
-places = 24
+use Rattle.timetable.specs.Mark.{mark, places}
 
 unfoldable pub isMarked : Term → List ℕ → Bool
 isMarked v row = everyBelow places λ i. Bool·beq (eqb (startsOf row i) mark) (not (member i (activities v)))

@@ -1,0 +1,3 @@
+-- The worked campaigns, proved.
+pub mod Tests
+pub mod Campaigns

@@ -1,0 +1,2 @@
+-- What CHECK answers.
+pub mod Answer

@@ -1,0 +1,2 @@
+-- The mark of an absent activity.
+pub mod Mark

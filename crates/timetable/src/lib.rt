@@ -1,0 +1,21 @@
+// A timetable: one start for each of 24 activity numbers.
+ghost use mathlib.Core.Path.{_≡_};
+ghost use Rattle.timetable.specs.Mark.{noStarts};
+
+// A start is in ticks; an absent activity has the mark.
+pub struct Timetable {
+    pub starts: [u16; 24],
+}
+
+impl Timetable {
+    pub const MARK: u16 = 65535;
+
+    // The timetable in which every activity is absent.
+    pub fn empty() -> Timetable
+        ensures { λ r. ⌜ r .starts ≡ noStarts ⌝ }
+    {
+        Timetable {
+            starts: [Timetable::MARK; 24],
+        }
+    }
+}

@@ -1,0 +1,2 @@
+-- What WRITE answers and leaves in the area.
+pub mod Answer
