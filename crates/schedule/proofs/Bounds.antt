@@ -11,6 +11,7 @@ use lib.Dec.{leb, ltb}
 use borrow.Author.Tests.{ltb-true, lt-ltb, leb-true, leb-false}
 use Rattle.schedule.specs.Below.{everyBelow, sumBelow, _implies_}
 use Rattle.schedule.specs.Project.{Project}
+pub use Rattle.schedule.specs.Bounds.{work}
 use Rattle.schedule.specs.Schedule.{Starts, endOf, load, latestEnd}
 use Rattle.schedule.specs.Sessions.{wait, horizon}
 use Rattle.schedule.proofs.Below.{by-bool, both, and-left, and-right, implies-elim, implies-fails, cond-true, cond-false, cond-mono, every-at, every-fails, sum-le, sum-le-but, max-term, max-least, sum-eq}
@@ -181,10 +182,6 @@ module _ (p : Project) (S : Starts) (sound : Sound p) (a : Active p S) where
 
   pub latest-by-horizon : latestEnd p S ≤ horizon p
   latest-by-horizon = ends-least p S (horizon p) ends-by-horizon
-
--- The sum of the durations.
-unfoldable pub work : Project → ℕ
-work p = sumBelow (p .size) λ i. cond (p .present i) (p .duration i) 0
 
 abbrev pub NoGaps : Project → Type 0
 NoGaps p = (i j : ℕ) → Has p i → Has p j → p .precedes i j ≡ true → p .gap i j ≡ 0

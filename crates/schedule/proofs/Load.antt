@@ -10,13 +10,9 @@ use lib.Dec.{leb, ltb}
 use borrow.Author.Tests.{leb-true, ltb-true, le-leb, lt-ltb, eq-eqb, ne-eqb}
 use Rattle.schedule.specs.Below.{sumBelow}
 use Rattle.schedule.specs.Project.{Project}
+pub use Rattle.schedule.specs.Bounds.{Has}
 use Rattle.schedule.specs.Schedule.{Starts, endOf, runs, load, latestEnd, moved}
 use Rattle.schedule.proofs.Below.{by-bool, both, and-left, and-right, cond-true, cond-false, cond-le, sum-le, sum-le-but, sum-zero, sum-term, sum-some, max-term, max-least}
-
--- i is an activity of the project.
-pub record Has (p : Project) (i : ℕ) : Type 0 where
-  pub below : i < p .size
-  pub there : p .present i ≡ true
 
 -- Every activity lasts a tick or more.
 pub record Sound (p : Project) : Type 0 where

@@ -9,6 +9,7 @@ use mathlib.Core.List.{List, [], _∷_}
 use lib.Dec.{eqb}
 use Rattle.schedule.specs.Below.{sumBelow}
 use Rattle.schedule.specs.Project.{Project}
+pub use Rattle.schedule.specs.Bounds.{Chain, chainLength, demand}
 use Rattle.schedule.specs.Schedule.{Starts, load, latestEnd, makespan}
 use Rattle.schedule.proofs.Below.{by-bool, and-left, and-right, cond-true, cond-false, sum-le, sum-const, sum-window, sum-swap}
 use Rattle.schedule.proofs.Load.{Has, Sound, Unfixed, holds, holds-all, end-le}
@@ -17,16 +18,6 @@ use Rattle.schedule.proofs.Makespan.{earliest, earliest-le, makespan-is
 use Rattle.schedule.proofs.Compact.{active-makespan}
 use Rattle.schedule.proofs.Bounds.{NoGaps, work, latest-by-work}
 use Rattle.schedule.proofs.Device.{OneUnit}
-
--- Activities of which each precedes the next: i and then those of the list.
-abbrev pub Chain : Project → ℕ → List ℕ → Type 0
-Chain p i [] = Has p i
-Chain p i (j ∷ js) = Has p i × (p .precedes i j ≡ true) × Chain p j js
-
--- Its durations with the gaps between.
-unfoldable pub chainLength : Project → ℕ → List ℕ → ℕ
-chainLength p i [] = p .duration i
-chainLength p i (j ∷ js) = p .duration i + p .gap i j + chainLength p j js
 
 chain-head : (p : Project) (i : ℕ) (js : List ℕ) → Chain p i js → Has p i
 chain-head p i [] c = c
@@ -42,10 +33,6 @@ module _ (p : Project) (S : Starts) (f : Feasible p S) where
   pub chain-bound : (i : ℕ) (js : List ℕ) → Chain p i js → chainLength p i js ≤ makespan p S
   chain-bound i js c =
       omega (arith, chain-latest i js c, earliest-le p S i (chain-head p i js c), makespan-is p S)
-
--- What the activities ask of r: units held, times ticks.
-unfoldable pub demand : Project → ℕ → ℕ
-demand p r = sumBelow (p .size) λ i. cond (p .present i) (p .duration i * p .units i r) 0
 
 -- On the ticks from the earliest start to the latest end each activity runs for its duration.
 holds-over : (p : Project) (S : Starts) (r i : ℕ) → Has p i → p .duration i * p .units i r ≤ sumBelow (makespan p S) (λ t. holds p S (earliest p S + t) r i)

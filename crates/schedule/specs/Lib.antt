@@ -3,3 +3,4 @@ pub mod Below
 pub mod Project
 pub mod Schedule
 pub mod Sessions
+pub mod Bounds

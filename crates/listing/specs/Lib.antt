@@ -1,0 +1,4 @@
+-- What COUNT, LIST and BEST answer.
+pub mod Count
+pub mod Listed
+pub mod Shortest
