@@ -1,6 +1,8 @@
 // READ, and the judgement of a plan file that every call starts with.
 ghost use mathlib.Core.Path.{_≡_};
-ghost use Rattle.read.specs.Answer.{readOf, Judges};
+ghost use Rattle.plan.specs.Plan.{planOf};
+ghost use Rattle.term.specs.Term.{termOf};
+ghost use Rattle.read.specs.Answer.{readOf, Judges, Ranged, judgedTerm};
 use parser::Verdict;
 use plan::Refusal;
 use plan::Tables;
@@ -19,4 +21,39 @@ pub enum ReadAnswer {
         variants: u64,
     },
     Refused(Refusal),
+}
+
+// What rests on the nodes: one whole term, no activity twice in a variant, and not too many variants.
+fn judge_term(tables: Tables) -> Judged
+    requires { ⌜ Ranged tables ⌝ }
+    ensures { λ j. ⌜ j ≡ judgedTerm tables (termOf (planOf tables .nodes)) ⌝ }
+{
+    let nodes = tables.nodes;
+    let s = survey::surveyed(&tables.letter, &tables.number, nodes);
+    if !s.whole {
+        return Judged {
+            verdict: Verdict::Refused(Refusal::NotOneTerm),
+            tables,
+            variants: 0,
+        };
+    }
+    if s.twice {
+        return Judged {
+            verdict: Verdict::Refused(Refusal::Twice),
+            tables,
+            variants: 0,
+        };
+    }
+    if 4096 < s.variants {
+        return Judged {
+            verdict: Verdict::Refused(Refusal::TooManyVariants),
+            tables,
+            variants: 0,
+        };
+    }
+    Judged {
+        verdict: Verdict::Accepted,
+        tables,
+        variants: s.variants,
+    }
 }

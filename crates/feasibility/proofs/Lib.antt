@@ -1,0 +1,3 @@
+-- The facts behind the test.
+pub mod Right
+pub mod Meaning

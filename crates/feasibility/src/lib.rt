@@ -1,0 +1,155 @@
+// Is a timetable a feasible session of a variant?
+ghost use mathlib.Core.Path.{_≡_};
+ghost use Prim.Native.Nat.{_<_, _≤_};
+ghost use Rattle.plan.specs.Plan.{Plan};
+ghost use Rattle.term.specs.Term.{Term};
+ghost use Rattle.sessions.specs.Timetable.{isSession};
+ghost use Rattle.feasibility.specs.Stands.{Stands};
+ghost use Rattle.feasibility.specs.Model.{markRight, marksRight, endsBy, apart, agree, placeRight, placesRight};
+use timetable::Timetable;
+
+// The mark at an absent activity, and at no other.
+fn mark_right(there: bool, start: u16) -> bool
+    ensures { λ r. ⌜ r ≡ markRight there start ⌝ }
+{
+    if there {
+        return start != Timetable::MARK;
+    }
+    start == Timetable::MARK
+}
+
+fn marks_right(present: u32, starts: &[u16; 24]) -> bool
+    ensures { λ r. ⌜ r ≡ marksRight present (now (starts .entry)) ⌝ }
+{
+    let mut i: usize = 0;
+    while i < 24 {
+        if !mark_right(sets::contains(present, i), starts[i]) {
+            return false;
+        }
+        i += 1;
+    }
+    true
+}
+
+fn wide(x: u16) -> u32
+    ensures { λ r. ⌜ (r ≡ x) × (r < 65536) ⌝ }
+{
+    x as u32
+}
+
+// Activity i ends by the start of j.
+fn ends_by(duration: &[u16; 24], starts: &[u16; 24], i: usize, j: usize) -> bool
+    requires { ⌜ (i < 24) × (j < 24) ⌝ }
+    ensures { λ r. ⌜ r ≡ endsBy (now (duration .entry)) (now (starts .entry)) i j ⌝ }
+{
+    wide(starts[i]) + wide(duration[i]) <= wide(starts[j])
+}
+
+// Two on one resource do not overlap.
+fn apart_at(
+    resource: &[u16; 24],
+    duration: &[u16; 24],
+    starts: &[u16; 24],
+    i: usize,
+    j: usize,
+) -> bool
+    requires { ⌜ (i < 24) × (j < 24) ⌝ }
+    ensures { λ r. ⌜ r ≡ apart (now (resource .entry)) (now (duration .entry)) (now (starts .entry)) i j ⌝ }
+{
+    if i == j {
+        return true;
+    }
+    if resource[i] != resource[j] {
+        return true;
+    }
+    if ends_by(duration, starts, i, j) {
+        return true;
+    }
+    ends_by(duration, starts, j, i)
+}
+
+// Activity j goes with i, where `before` has those that precede j. One that ends by the start of j does not overlap it.
+fn agree_at(
+    resource: &[u16; 24],
+    duration: &[u16; 24],
+    present: u32,
+    before: u32,
+    starts: &[u16; 24],
+    i: usize,
+    j: usize,
+) -> bool
+    requires { ⌜ (i < 24) × (j < 24) ⌝ }
+    ensures { λ r. ⌜ r ≡ agree (now (resource .entry)) (now (duration .entry)) present before (now (starts .entry)) i j ⌝ }
+{
+    if !sets::contains(present, i) {
+        return true;
+    }
+    if sets::contains(before, i) {
+        return ends_by(duration, starts, i, j);
+    }
+    apart_at(resource, duration, starts, i, j)
+}
+
+fn place_right(
+    acts: usize,
+    resource: &[u16; 24],
+    duration: &[u16; 24],
+    present: u32,
+    before: u32,
+    starts: &[u16; 24],
+    j: usize,
+) -> bool
+    requires { ⌜ (acts ≤ 24) × (j < 24) ⌝ }
+    ensures { λ r. ⌜ r ≡ placeRight acts (now (resource .entry)) (now (duration .entry)) present before (now (starts .entry)) j ⌝ }
+{
+    if !sets::contains(present, j) {
+        return true;
+    }
+    let mut i: usize = 0;
+    while i < acts {
+        if !agree_at(resource, duration, present, before, starts, i, j) {
+            return false;
+        }
+        i += 1;
+    }
+    true
+}
+
+fn places_right(
+    acts: usize,
+    resource: &[u16; 24],
+    duration: &[u16; 24],
+    present: u32,
+    preds: &[u32; 24],
+    starts: &[u16; 24],
+) -> bool
+    requires { ⌜ acts ≤ 24 ⌝ }
+    ensures { λ r. ⌜ r ≡ placesRight acts (now (resource .entry)) (now (duration .entry)) present (now (preds .entry)) (now (starts .entry)) ⌝ }
+{
+    let mut j: usize = 0;
+    while j < acts {
+        if !place_right(acts, resource, duration, present, preds[j], starts, j) {
+            return false;
+        }
+        j += 1;
+    }
+    true
+}
+
+// Yes exactly if the timetable is a session of the variant of the plan that the other arguments stand for, whatever its 24 numbers are.
+pub fn is_session(
+    acts: usize,
+    resource: &[u16; 24],
+    duration: &[u16; 24],
+    present: u32,
+    preds: &[u32; 24],
+    starts: &[u16; 24],
+) -> bool
+    requires { ⌜ acts ≤ 24 ⌝ }
+    ensures { λ r. ⌜ ((p : Plan) (w : Term) → Stands p w acts (now (resource .entry)) (now (duration .entry)) present (now (preds .entry)) → r ≡ isSession p w (now (starts .entry))) ⌝ }
+{
+    if !marks_right(present, starts) {
+        return false;
+    }
+    places_right(acts, resource, duration, present, preds, starts)
+}

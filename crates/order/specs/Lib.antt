@@ -1,0 +1,3 @@
+-- What the order of a plan's nodes says.
+pub mod Order
+pub mod Walk

@@ -1,0 +1,31 @@
+-- The order of a term: its activities as a set, and for each activity the set of those that precede it.
+use Prim.Native.Nat.{ℕ, _^_, _≤_, _<_}
+use mathlib.Core.Path.{_≡_}
+use mathlib.Core.Bool.{true}
+use mathlib.Core.List.{List}
+use mathlib.Core.Option.{some}
+use lib.ListN.{take, getD}
+use Rattle.plan.specs.Plan.{nodesOf, isNode, every}
+use Rattle.sets.specs.Sets.{most, has}
+use Rattle.term.specs.Term.{Term, termOf}
+use Rattle.term.specs.Variants.{activities, member}
+use Rattle.variant.specs.Precedence.{precedes}
+use Rattle.order.specs.declared.Order.{Order}
+
+-- The tables hold that many nodes, each with its number in range, and they are one whole term.
+pub record OneTerm (letter number : List ℕ) (nodes : ℕ) : Type 0 where
+  pub held : nodes ≤ 64
+  pub ranged : every (isNode most) (nodesOf (take nodes letter) (take nodes number)) ≡ true
+  pub term : Term
+  pub read : termOf (nodesOf (take nodes letter) (take nodes number)) ≡ some term
+
+-- Bit i is set in `present` exactly if the term has activity i, and in entry j of `preds` exactly if i precedes j.
+pub record OrderOf (t : Term) (r : Order) : Type 0 where
+  pub small : r .present < 2 ^ most
+  pub members : (i : ℕ) → has (r .present) i ≡ member i (activities t)
+  pub low : (j : ℕ) → j < most → getD (r .preds) j 0 < 2 ^ most
+  pub before : (i j : ℕ) → j < most → has (getD (r .preds) j 0) i ≡ precedes t i j
+
+-- The order of the term that the nodes are.
+abbrev pub Ordered : List ℕ → List ℕ → ℕ → Order → Type 0
+Ordered letter number nodes r = (t : Term) → termOf (nodesOf (take nodes letter) (take nodes number)) ≡ some t → OrderOf t r
