@@ -1,0 +1,194 @@
+-- `term` and `each` call each other: a node is followed by its children, and the nodes left over fall. What each step
+-- needs and what it adds are laws on plain numbers and lists; here they meet the code.
+use Prim.Native.Nat.{ℕ, _+_, _-_, _*_, _<_}
+use native.Mathlib.Omega.{arith}
+use lib.ListN.{length}
+use borrow.Fn.Kinds.{In}
+use borrow.Fn.PlainCycle.{Measures, is, falls, and}
+use Rattle.chosen.proofs.Letters.{together, node-xor}
+use Rattle.chosen.proofs.Choosing.{fall-first, fall-others, fall-children, fall-one, in-letters, in-numbers, in-tables, draft-room, act-grown, opened-ready, kept-ready, opened-grown, kept-grown, apart-ready, one-ready, one-grown, each-some, each-in-letters, each-in-tables, each-later, split-ready, first-ready, others-ready, all-grown, none-grown}
+use Rattle.chosen.proofs.each.Reads as each
+use Rattle.chosen.proofs.each.Kinds as each-kinds
+use Rattle.chosen.proofs.+each+term.Lts-each as each-lts
+use Rattle.chosen.proofs.term.Reads as term
+use Rattle.chosen.proofs.term.Kinds as term-kinds
+use Rattle.chosen.proofs.+each+term.Lts-term as term-lts
+use Rattle.chosen.proofs.alternative.Reads as alternative-reads
+use Rattle.chosen.proofs.closed.Reads as closed-reads
+use Rattle.chosen.proofs.opened.Reads as opened-reads
+use Rattle.chosen.proofs.split.Reads as split-reads
+use Rattle.chosen.proofs.+each+term.{statement}
+use Rattle.chosen.proofs.+each+term.Tie.{close}
+
+-- The nodes left over, twice, and one more before the first of several terms.
+abbrev μ-each : Measures 4 each-kinds.ps ℕ
+μ-each κs a = 2 * (length (a .0 .now) - a .1 .1 .1 .1 .1 .1 .0) + 1
+
+abbrev μ-term : Measures 4 term-kinds.ps ℕ
+μ-term κs a = 2 * (length (a .0 .now) - a .1 .1 .1 .1 .1 .0)
+
+abbrev each-at : ℕ → In 4 each-kinds.ps
+each-at t = and 4 each-kinds.ps (is 4 each-kinds.ps μ-each t) each.Pre
+
+abbrev each-below : ℕ → In 4 each-kinds.ps
+each-below t = and 4 each-kinds.ps (falls 4 each-kinds.ps _<_ μ-each t) each.Pre
+
+abbrev term-at : ℕ → In 4 term-kinds.ps
+term-at t = and 4 term-kinds.ps (is 4 term-kinds.ps μ-term t) term.Pre
+
+abbrev term-below : ℕ → In 4 term-kinds.ps
+term-below t = and 4 term-kinds.ps (falls 4 term-kinds.ps _<_ μ-term t) term.Pre
+
+abbrev each-calls : ℕ → each-lts.Claims
+each-calls t = (split-reads.Asked, split-reads.Learnt, term-below t, term.Post, each-below t, each.Post)
+
+abbrev term-calls : ℕ → term-lts.Claims
+term-calls t = (
+  opened-reads.Asked,
+  opened-reads.Learnt,
+  closed-reads.Asked,
+  closed-reads.Learnt,
+  each-below t,
+  each.Post,
+  alternative-reads.Asked,
+  alternative-reads.Learnt,
+  term-below t,
+  term.Post,
+)
+
+module _ (t : ℕ) where
+  each-returns : each-lts.Need-returns (each-calls t) (each-at t) each.Post
+  each-returns c = let a = c .before .before .before .args in none-grown (a .kind) (a .k) _ (a .v) (c .if1 .taken) (c .before .before .before .pre .1 .going .held)
+
+  each-mul-split : each-lts.Need-mul-split (each-calls t) (each-at t) each.Post
+  each-mul-split c = omega (arith, each-in-tables (c .before .before .before .pre .1) (c .if1 .left))
+
+  each-element-copy-out-split : each-lts.Need-element-copy-out-split (each-calls t) (each-at t) each.Post
+  each-element-copy-out-split c = each-in-tables (c .before .before .before .pre .1) (c .if1 .left)
+
+  each-split-requires : each-lts.Need-split-requires (each-calls t) (each-at t) each.Post
+  each-split-requires c κs = split-ready (c .before .before .before .before .pre .1) (c .before .if1 .left)
+
+  each-term-requires : each-lts.Need-term-requires (each-calls t) (each-at t) each.Post
+  each-term-requires c κs = (fall-first (length (c .before .before .before .before .before .args .letter .now)) (c .before .before .before .before .before .args .at) t (c .before .before .before .before .before .pre .0), first-ready (c .before .before .before .before .before .pre .1) (c .before .before .if1 .left) (c .split .ensures))
+
+  each-sub-each : each-lts.Need-sub-each (each-calls t) (each-at t) each.Post
+  each-sub-each c = each-some (c .before .before .before .before .before .before .pre .1) (c .before .before .before .if1 .left)
+
+  each-mul-each : each-lts.Need-mul-each (each-calls t) (each-at t) each.Post
+  each-mul-each c = omega (arith, each-in-tables (c .before .before .before .before .before .before .pre .1) (c .before .before .before .if1 .left))
+
+  each-element-copy-out-each : each-lts.Need-element-copy-out-each (each-calls t) (each-at t) each.Post
+  each-element-copy-out-each c = each-in-tables (c .before .before .before .before .before .before .pre .1) (c .before .before .before .if1 .left)
+
+  each-each-requires : each-lts.Need-each-requires (each-calls t) (each-at t) each.Post
+  each-each-requires c κs = (
+    fall-others (length (c .before .before .before .before .before .before .before .args .letter .now)) (c .before .before .before .before .before .before .before .args .at) _ t (each-in-letters (c .before .before .before .before .before .before .before .pre .1) (c .before .before .before .before .if1 .left)) (each-later (c .before .before .before .before .before .before .before .pre .1) (c .before .before .before .before .if1 .left)) (c .before .before .before .before .before .before .before .pre .0),
+    others-ready (c .before .before .before .before .before .before .before .pre .1) (c .before .before .before .before .if1 .left) (c .before .before .split .ensures) (c .before .before .before .before .before .before .before .args .kind) (c .before .term .ensures),
+  )
+
+  each-returns-2 : each-lts.Need-returns-2 (each-calls t) (each-at t) each.Post
+  each-returns-2 c = all-grown (c .before .before .before .before .before .before .before .before .pre .1) (c .before .before .before .before .before .if1 .left) (c .before .before .before .split .ensures) (c .before .before .before .before .before .before .before .before .args .kind) (c .before .before .term .ensures) (c .each .ensures)
+
+  term-shared-slice-read-l : term-lts.Need-shared-slice-read-l (term-calls t) (term-at t) term.Post
+  term-shared-slice-read-l c = in-letters (c .before .before .before .pre .1)
+
+  term-shared-slice-read-k : term-lts.Need-shared-slice-read-k (term-calls t) (term-at t) term.Post
+  term-shared-slice-read-k c = in-numbers (c .before .before .before .before .pre .1)
+
+  term-opened-requires : term-lts.Need-opened-requires (term-calls t) (term-at t) term.Post
+  term-opened-requires c κs = draft-room (c .before .before .before .before .before .pre .1) .0
+
+  term-closed-requires : term-lts.Need-closed-requires (term-calls t) (term-at t) term.Post
+  term-closed-requires c κs = draft-room (c .before .before .before .before .before .before .pre .1)
+
+  term-add-each : term-lts.Need-add-each (term-calls t) (term-at t) term.Post
+  term-add-each c = omega (arith, in-tables (c .before .before .before .before .before .before .pre .1))
+
+  term-mul-each : term-lts.Need-mul-each (term-calls t) (term-at t) term.Post
+  term-mul-each c = omega (arith, in-tables (c .before .before .before .before .before .before .pre .1))
+
+  term-element-copy-out-each : term-lts.Need-element-copy-out-each (term-calls t) (term-at t) term.Post
+  term-element-copy-out-each c = in-tables (c .before .before .before .before .before .before .pre .1)
+
+  term-each-requires : term-lts.Need-each-requires (term-calls t) (term-at t) term.Post
+  term-each-requires c κs = (fall-children (length (c .before .before .before .before .before .before .before .args .letter .now)) (c .before .before .before .before .before .before .before .args .at) t (in-letters (c .before .before .before .before .before .before .before .pre .1)) (c .before .before .before .before .before .before .before .pre .0), opened-ready (c .before .before .before .before .before .before .before .pre .1) (together _ (c .before .before .match .keys2)))
+
+  term-add-each-2 : term-lts.Need-add-each-2 (term-calls t) (term-at t) term.Post
+  term-add-each-2 c = omega (arith, in-tables (c .before .before .before .before .before .before .pre .1))
+
+  term-mul-each-2 : term-lts.Need-mul-each-2 (term-calls t) (term-at t) term.Post
+  term-mul-each-2 c = omega (arith, in-tables (c .before .before .before .before .before .before .pre .1))
+
+  term-element-copy-out-each-2 : term-lts.Need-element-copy-out-each-2 (term-calls t) (term-at t) term.Post
+  term-element-copy-out-each-2 c = in-tables (c .before .before .before .before .before .before .pre .1)
+
+  term-opened-requires-2 : term-lts.Need-opened-requires-2 (term-calls t) (term-at t) term.Post
+  term-opened-requires-2 c κs = draft-room (c .before .before .before .before .before .before .before .pre .1) .0
+
+  term-each-requires-2 : term-lts.Need-each-requires-2 (term-calls t) (term-at t) term.Post
+  term-each-requires-2 c κs = (fall-children (length (c .before .before .before .before .before .before .before .before .args .letter .now)) (c .before .before .before .before .before .before .before .before .args .at) t (in-letters (c .before .before .before .before .before .before .before .before .pre .1)) (c .before .before .before .before .before .before .before .before .pre .0), kept-ready (c .before .before .before .before .before .before .before .before .pre .1) (together _ (c .before .before .before .match .keys2)) (c .opened2 .ensures))
+
+  term-closed-requires-2 : term-lts.Need-closed-requires-2 (term-calls t) (term-at t) term.Post
+  term-closed-requires-2 c κs = draft-room (c .before .before .before .before .before .before .before .before .before .pre .1)
+
+  term-add-alternative : term-lts.Need-add-alternative (term-calls t) (term-at t) term.Post
+  term-add-alternative c = omega (arith, in-tables (c .before .before .before .before .before .pre .1))
+
+  term-alternative-requires : term-lts.Need-alternative-requires (term-calls t) (term-at t) term.Post
+  term-alternative-requires c κs = (_, apart-ready (c .before .before .before .before .before .pre .1) (node-xor _ _ (c .match .rest .0 .1) (c .match .rest .1)))
+
+  term-term-requires : term-lts.Need-term-requires (term-calls t) (term-at t) term.Post
+  term-term-requires c κs = let found = c .alternative .ensures _ (apart-ready (c .before .before .before .before .before .before .pre .1) (node-xor _ _ (c .before .match .rest .0 .1) (c .before .match .rest .1))) in
+      (fall-one (length (c .before .before .before .before .before .before .args .letter .now)) (c .before .before .before .before .before .before .args .at) _ t (in-letters (c .before .before .before .before .before .before .pre .1)) (found .later) (c .before .before .before .before .before .before .pre .0), one-ready (c .before .before .before .before .before .before .pre .1) (node-xor _ _ (c .before .match .rest .0 .1) (c .before .match .rest .1)) found)
+
+  term-returns : term-lts.Need-returns (term-calls t) (term-at t) term.Post
+  term-returns c = act-grown (c .before .before .before .before .before .before .before .pre .1) (c .before .opened .ensures) (c .before .before .before .before .before .before .before .args .kind) _ (c .before .before .match .keys1) (c .closed .ensures)
+
+  term-returns-2 : term-lts.Need-returns-2 (term-calls t) (term-at t) term.Post
+  term-returns-2 c = opened-grown (c .before .before .before .before .before .before .before .before .pre .1) (together _ (c .before .before .before .match .keys2)) (c .before .before .before .before .before .before .before .before .args .kind) _ (c .before .before .if1 .taken) (c .each .ensures)
+
+  term-returns-3 : term-lts.Need-returns-3 (term-calls t) (term-at t) term.Post
+  term-returns-3 c = kept-grown (c .before .before .before .before .before .before .before .before .before .before .pre .1) (together _ (c .before .before .before .before .before .match .keys2)) (c .before .before .before .before .before .before .before .before .before .before .args .kind) _ _ _ (c .before .before .before .before .if1 .left) (c .before .before .opened2 .ensures) (c .before .each2 .ensures) (c .closed2 .ensures)
+
+  term-returns-4 : term-lts.Need-returns-4 (term-calls t) (term-at t) term.Post
+  term-returns-4 c = one-grown (c .before .before .before .before .before .before .before .pre .1) (node-xor _ _ (c .before .before .match .rest .0 .1) (c .before .before .match .rest .1)) (c .before .before .before .before .before .before .before .args .kind) (c .before .alternative .ensures _ (apart-ready (c .before .before .before .before .before .before .before .pre .1) (node-xor _ _ (c .before .before .match .rest .0 .1) (c .before .before .match .rest .1)))) (c .term .ensures)
+
+pub +each+term-spec : {M : Type 1} → statement M
++each+term-spec =
+    close μ-each μ-term
+    (λ t.
+    each-lts.spec (each-calls t) (each-at t) each.Post
+    (each-returns t)
+    (each-mul-split t)
+    (each-element-copy-out-split t)
+    (each-split-requires t)
+    (each-term-requires t)
+    (each-sub-each t)
+    (each-mul-each t)
+    (each-element-copy-out-each t)
+    (each-each-requires t)
+    (each-returns-2 t))
+    (λ t.
+    term-lts.spec (term-calls t) (term-at t) term.Post
+    (term-shared-slice-read-l t)
+    (term-shared-slice-read-k t)
+    (term-opened-requires t)
+    (term-closed-requires t)
+    (term-add-each t)
+    (term-mul-each t)
+    (term-element-copy-out-each t)
+    (term-each-requires t)
+    (term-add-each-2 t)
+    (term-mul-each-2 t)
+    (term-element-copy-out-each-2 t)
+    (term-opened-requires-2 t)
+    (term-each-requires-2 t)
+    (term-closed-requires-2 t)
+    (term-add-alternative t)
+    (term-alternative-requires t)
+    (term-term-requires t)
+    (term-returns t)
+    (term-returns-2 t)
+    (term-returns-3 t)
+    (term-returns-4 t))

@@ -1,0 +1,282 @@
+// The nodes of one variant of an accepted plan, as they are written out.
+ghost use Prim.Native.Nat.{_+_, _/_, _%_, _≤_, _<_};
+ghost use mathlib.Core.List.{List};
+ghost use mathlib.Core.Option.{some};
+ghost use mathlib.Core.Path.{_≡_};
+ghost use lib.ListN.{set};
+ghost use Rattle.plan.specs.Limits.{mostVariants};
+ghost use Rattle.plan.specs.Plan.{Node, nodesOf};
+ghost use Rattle.term.specs.Term.{Term, firsts, termOf};
+ghost use Rattle.chosen.specs.Chosen.{nodesIn, Accepted, Choosable, Chose};
+ghost use Rattle.chosen.specs.Model.{Spanned, combine, Walk, Walked, Begun, Ended, Apart, Found, partsOf, partsOfEach, termAt, termsAt, Grown, OfTerm, OfEach};
+
+// For each node, where the term that it begins ends, and how many variants that term has.
+pub struct Spans {
+    pub next: [usize; 64],
+    pub count: [u32; 64],
+}
+
+// The nodes of one variant. What stands past their count means nothing.
+pub struct Chosen {
+    pub nodes: usize,
+    pub letter: [u8; 64],
+    pub number: [u8; 64],
+}
+
+struct Span {
+    next: usize,
+    count: u32,
+}
+
+// A place among the nodes, and a variant of the term there.
+struct Place {
+    at: usize,
+    v: u32,
+}
+
+// A variant of several terms: that of the first one, that of the others, and how many the others have.
+struct Digits {
+    first: u32,
+    rest: u32,
+    others: u32,
+}
+
+// The nodes written so far, and how many children the group that is being written has.
+struct Draft {
+    at: usize,
+    children: u8,
+    letter: [u8; 64],
+    number: [u8; 64],
+}
+
+// The spans of the nodes of an accepted plan, from the last node to the first: a node's children stand behind it.
+pub fn spans_of(letter: [u8; 64], number: [u8; 64], nodes: usize) -> Spans
+    requires { ⌜ (nodes ≤ 64) × Accepted (nodesIn nodes letter number) ⌝ }
+    ensures { λ r. ⌜ Spanned (nodesIn nodes letter number) (r .next) (r .count) 0 ⌝ }
+{
+    let mut next = [0usize; 64];
+    let mut count = [0u32; 64];
+    let mut i = nodes;
+    while 0 < i {
+        i -= 1;
+        let s = span_of(letter[i], number[i], i + 1, &next, &count);
+        next[i] = s.next;
+        count[i] = s.count;
+    }
+    Spans { next, count }
+}
+
+// The span of the node of this letter and number, whose children begin at `from`.
+fn span_of(letter: u8, number: u8, from: usize, next: &[usize; 64], count: &[u32; 64]) -> Span
+    requires { ⌜ ((ns : List Node) × Begun ns (now next) (now count) letter number from) ⌝ }
+    ensures { λ r. ⌜ ((ns : List Node) → Begun ns (now (next .entry)) (now (count .entry)) letter number from → Ended ns letter number from r) ⌝ }
+{
+    match letter {
+        b'a' => Span {
+            next: from,
+            count: 1,
+        },
+        b's' | b'p' => walk(false, number, from, next, count),
+        _ => walk(true, number, from, next, count),
+    }
+}
+
+// Along k children: the place behind them, and how many variants they have, one of them chosen or all together.
+fn walk(apart: bool, k: u8, from: usize, next: &[usize; 64], count: &[u32; 64]) -> Span
+    requires { ⌜ ((ns : List Node) × Walk ns (now next) (now count) apart k from) ⌝ }
+    ensures { λ r. ⌜ ((ns : List Node) → Walk ns (now (next .entry)) (now (count .entry)) apart k from → Walked ns apart k from r) ⌝ }
+{
+    let mut at = from;
+    let mut left = k;
+    let mut ways = if apart { 0 } else { 1 };
+    while 0 < left {
+        ways = combined(apart, ways, count[at]);
+        at = next[at];
+        left -= 1;
+    }
+    Span {
+        next: at,
+        count: ways,
+    }
+}
+
+// The variants of some children and of one more.
+fn combined(apart: bool, a: u32, b: u32) -> u32
+    requires { ⌜ combine apart a b ≤ mostVariants ⌝ }
+    ensures { λ r. ⌜ r ≡ combine apart a b ⌝ }
+{
+    if apart { a + b } else { a * b }
+}
+
+// The child, of those from a place on, that v falls into.
+fn alternative(next: &[usize; 64], count: &[u32; 64], from: usize, v: u32) -> Place
+    requires { ⌜ ((ns : List Node) × Apart ns (now next) (now count) from v) ⌝ }
+    ensures { λ r. ⌜ ((ns : List Node) → Apart ns (now (next .entry)) (now (count .entry)) from v → Found ns from v r) ⌝ }
+{
+    let mut at = from;
+    let mut left = v;
+    while count[at] <= left {
+        left -= count[at];
+        at = next[at];
+    }
+    Place { at, v: left }
+}
+
+// Room for one node, whose children follow.
+fn opened(d: Draft) -> Draft
+    requires { ⌜ d .at < 64 ⌝ }
+    ensures { λ r. ⌜ r ≡ record { at = d .at + 1; children = 0; letter = d .letter; number = d .number } ⌝ }
+{
+    let letter = d.letter;
+    let number = d.number;
+    Draft {
+        at: d.at + 1,
+        children: 0,
+        letter,
+        number,
+    }
+}
+
+// Puts a node into the room that was left for it behind `outer`, where it is one more child of the group being written.
+fn closed(d: Draft, outer: Draft, letter: u8, number: u8) -> Draft
+    requires { ⌜ (outer .at < 64) × (outer .children < 64) ⌝ }
+    ensures { λ r. ⌜ r ≡ record { at = d .at; children = outer .children + 1; letter = set (d .letter) (outer .at) letter; number = set (d .number) (outer .at) number } ⌝ }
+{
+    let at = outer.at;
+    let mut letters = d.letter;
+    let mut numbers = d.number;
+    letters[at] = letter;
+    numbers[at] = number;
+    Draft {
+        at: d.at,
+        children: outer.children + 1,
+        letter: letters,
+        number: numbers,
+    }
+}
+
+// Of the `all` variants of several terms, number v, where the first term has `here`: the first one varies slowest.
+fn split(v: u32, all: u32, here: u32) -> Digits
+    requires { ⌜ (0 < here) × (0 < all / here) ⌝ }
+    ensures { λ r. ⌜ r ≡ record { first = v / (all / here); rest = v % (all / here); others = all / here } ⌝ }
+{
+    let others = all / here;
+    Digits {
+        first: v / others,
+        rest: v % others,
+        others,
+    }
+}
+
+// Writes variant v of the term at a place, as a child of a group of the letter `kind` (0: of none). A group in one of its
+// own letter gives its children to it.
+fn term(
+    letter: &[u8],
+    number: &[u8],
+    next: &[usize; 64],
+    count: &[u32; 64],
+    kind: u8,
+    at: usize,
+    v: u32,
+    d: Draft,
+) -> Draft
+    requires { ⌜ OfTerm (now letter) (now number) (now next) (now count) at v d ⌝ }
+    ensures { λ r. ⌜ Grown d r (partsOf kind (termAt (nodesOf (now (letter .entry)) (now (number .entry))) at) v) ⌝ }
+{
+    let l = letter[at];
+    let k = number[at];
+    match l {
+        b'a' => closed(opened(d), d, l, k),
+        b's' | b'p' => {
+            if l == kind {
+                each(letter, number, next, count, l, k, at + 1, v, count[at], d)
+            } else {
+                let inner = each(
+                    letter,
+                    number,
+                    next,
+                    count,
+                    l,
+                    k,
+                    at + 1,
+                    v,
+                    count[at],
+                    opened(d),
+                );
+                closed(inner, d, l, inner.children)
+            }
+        }
+        _ => {
+            let one = alternative(next, count, at + 1, v);
+            term(letter, number, next, count, kind, one.at, one.v, d)
+        }
+    }
+}
+
+// Writes variant v of the `all` that k terms from a place on have together, each as a child of a group of the letter `kind`.
+fn each(
+    letter: &[u8],
+    number: &[u8],
+    next: &[usize; 64],
+    count: &[u32; 64],
+    kind: u8,
+    k: u8,
+    at: usize,
+    v: u32,
+    all: u32,
+    d: Draft,
+) -> Draft
+    requires { ⌜ OfEach (now letter) (now number) (now next) (now count) k at v all d ⌝ }
+    ensures { λ r. ⌜ Grown d r (partsOfEach kind (firsts k (termsAt (nodesOf (now (letter .entry)) (now (number .entry))) at)) v) ⌝ }
+{
+    if k == 0 {
+        return d;
+    }
+    let digits = split(v, all, count[at]);
+    let first = term(letter, number, next, count, kind, at, digits.first, d);
+    each(
+        letter,
+        number,
+        next,
+        count,
+        kind,
+        k - 1,
+        next[at],
+        digits.rest,
+        digits.others,
+        first,
+    )
+}
+
+// The nodes of variant v of an accepted plan.
+pub fn choose(letter: [u8; 64], number: [u8; 64], nodes: usize, spans: Spans, v: u32) -> Chosen
+    requires { ⌜ (nodes ≤ 64) × Choosable (nodesIn nodes letter number) (spans .next) (spans .count) v ⌝ }
+    ensures { λ r. ⌜ ((t : Term) → termOf (nodesIn nodes letter number) ≡ some t → Chose t v r) ⌝ }
+{
+    let next = spans.next;
+    let count = spans.count;
+    let start = Place { at: 0, v };
+    let blank = Draft {
+        at: 0,
+        children: 0,
+        letter: [0; 64],
+        number: [0; 64],
+    };
+    let d = term(
+        &letter[..nodes],
+        &number[..nodes],
+        &next,
+        &count,
+        0,
+        start.at,
+        start.v,
+        blank,
+    );
+    let letter = d.letter;
+    let number = d.number;
+    Chosen {
+        nodes: d.at,
+        letter,
+        number,
+    }
+}
