@@ -186,7 +186,8 @@ module _ {letter number next many : List ℕ} {at v : ℕ} {d : Draft} (now : Of
         let many : i .children ≡ size (partsOfEach l f v) = omega (arith, h .children, ap (λ (x : Draft). x .children) is) in
         subst (Grown d r)
         (parts-kept g kind ne f v ∙ ap (λ (x : Forest). partsOf kind (first x) v) (sym node-is))
-        (closed-grown is (i .children) (g .make (partsOfEach l f v)) (partsOfEach l f v) h close (g .nodes-is (partsOfEach l f v) ∙ ap (λ (n : ℕ). nodeOf l n ∷ nodesOfAll (partsOfEach l f v)) (sym many)))
+        (closed-grown is (i .children) (g .make (partsOfEach l f v)) (partsOfEach l f v) h close
+        (g .nodes-is (partsOfEach l f v) ∙ ap (λ (n : ℕ). nodeOf l n ∷ nodesOfAll (partsOfEach l f v)) (sym many)))
 
   -- A group of which one is done.
   module _ (x : nodeOf l k ≡ Plan.xor k) where

@@ -11,9 +11,9 @@ use Rattle.plan.specs.Plan
 use Rattle.term.specs.Term.{Term, Forest, act, seq, pll, xor, cons, size, nodes, nodesOfAll, firsts, others}
 use Rattle.term.proofs.Model.{count, product}
 use Rattle.term.proofs.Reading.{width}
-use Rattle.variant.specs.Written.{joined, inSeq, inPll, dissolved, dissolvedIn}
+use Rattle.variant.specs.Written.{joined, dissolved, dissolvedIn}
 use Rattle.variant.proofs.Pick.{pick, pickEach}
-use Rattle.chosen.specs.Model.{onto, putIn}
+use Rattle.chosen.specs.Model.{onto, putBy, putIn}
 
 abbrev nodeBy : Bool → Bool → Bool → ℕ → Node
 nodeBy a s p n =
@@ -39,9 +39,6 @@ pub record Together (l : ℕ) : Type 0 where
   pub dissolved-is : (f : Forest) → dissolved (make f) ≡ make (dissolvedIn (putIn l) f)
   pub opens : (f g : Forest) → putIn l (make f) g ≡ joined f g
   pub stays : (kind : ℕ) (f g : Forest) → (l ≡ kind → ⊥) → putIn kind (make f) g ≡ cons (make f) g
-
-abbrev putBy : Bool → Bool → Term → Forest → Forest
-putBy s p = elim s [ true ↦ inSeq | false ↦ elim p [ true ↦ inPll | false ↦ cons ] ]
 
 of-seq : Together 115
 unfolding onto count nodes pick dissolved

@@ -80,7 +80,8 @@ module _ {ns : List Node} {next many : List ℕ} {apart : Bool} {k from : ℕ} (
       let l : at < length ns = along-inside a in
       let e : termsAt ns at ≡ cons (termAt ns at) (termsAt ns (getD next at 0)) = stepped (walk .spanned) at (a .later) l in
       combine-assoc apart w (getD many at 0) (ways apart (firsts m (termsAt ns (getD next at 0))))
-      ∙ ap (combine apart w) (ap (λ (n : ℕ). combine apart n (ways apart (firsts m (termsAt ns (getD next at 0))))) (walk .spanned .counts at (a .later) l) ∙ sym (ways-cons apart (termAt ns at) (firsts m (termsAt ns (getD next at 0)))))
+      ∙ ap (λ (n : ℕ). combine apart w (combine apart n (ways apart (firsts m (termsAt ns (getD next at 0)))))) (walk .spanned .counts at (a .later) l)
+      ∙ ap (combine apart w) (sym (ways-cons apart (termAt ns at) (firsts m (termsAt ns (getD next at 0)))))
       ∙ ap (λ (f : Forest). combine apart w (ways apart (firsts (suc m) f))) (sym e)
       ∙ a .counts
 
@@ -92,7 +93,9 @@ module _ {ns : List Node} {next many : List ℕ} {apart : Bool} {k from : ℕ} (
 
   pub along-few : {at m w : ℕ} → Along ns apart k from at (suc m) w → combine apart w (getD many at 0) ≤ mostVariants
   along-few {at} {m} {w} a =
-      omega (arith, walk .few, along-counts a, combine-grows apart (combine apart w (getD many at 0)) (firsts m (termsAt ns (getD next at 0))) (full-firsts m (termsAt ns (getD next at 0)) (along-full a)))
+      let later : Forest = firsts m (termsAt ns (getD next at 0)) in
+      let filled : fullAll later ≡ true = full-firsts m (termsAt ns (getD next at 0)) (along-full a) in
+      omega (arith, walk .few, along-counts a, combine-grows apart (combine apart w (getD many at 0)) later filled)
 
   pub along-step : {at m w n : ℕ} → n ≡ combine apart w (getD many at 0) → Along ns apart k from at (suc m) w → Along ns apart k from (getD next at 0) m n
   unfolding size others

@@ -10,8 +10,8 @@ use lib.ListN.{length, getD, take, set, length-append, length-set}
 use lib.Seq.{length-take-le, take-set-lt, set-at}
 use Rattle.plan.specs.Plan.{Node, nodeOf, nodesOf}
 use Rattle.term.specs.Term.{Term, Forest, act, seq, pll, xor, nil, cons, size, nodes, nodesOfAll}
-use Rattle.variant.specs.Written.{joined, inSeq, inPll}
-use Rattle.chosen.specs.Model.{putIn, draftNodes, Held, Grown}
+use Rattle.variant.specs.Written.{joined}
+use Rattle.chosen.specs.Model.{putBy, putIn, draftNodes, Held, Grown}
 use Rattle.chosen.specs.declared.Draft.{Draft}
 use Rattle.chosen.proofs.Terms.{length-nodes}
 
@@ -52,9 +52,6 @@ joined-assoc nil g h = refl
 joined-assoc (cons t f) g h = ap (cons t) (joined-assoc f g h)
 
 -- A child is put before the others by itself, and has no more nodes then.
-abbrev putBy : Bool → Bool → Term → Forest → Forest
-putBy s p = elim s [ true ↦ inSeq | false ↦ elim p [ true ↦ inPll | false ↦ cons ] ]
-
 data Put : Term → (Forest → Forest) → Type 0 where
   whole : {t : Term} → Put t (cons t)
   seq-apart : {f : Forest} → Put (seq f) (joined f)

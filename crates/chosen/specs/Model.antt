@@ -102,8 +102,11 @@ pub record Found (ns : List Node) (from v : ℕ) (r : Place) : Type 0 where
   pub smaller : length (nodesOfAll (termsAt ns (r .at))) ≤ length (nodesOfAll (termsAt ns from))
 
 -- How a child is put into a group, by the group's letter: an s takes an s apart, and a p a p.
+abbrev pub putBy : Bool → Bool → Term → Forest → Forest
+putBy s p = elim s [ true ↦ inSeq | false ↦ elim p [ true ↦ inPll | false ↦ cons ] ]
+
 abbrev pub putIn : ℕ → Term → Forest → Forest
-putIn kind = elim (eqb kind 115) [ true ↦ inSeq | false ↦ elim (eqb kind 112) [ true ↦ inPll | false ↦ cons ] ]
+putIn kind = putBy (eqb kind 115) (eqb kind 112)
 
 -- What variant v of a term, and of each of several, is in a group of that letter.
 unfoldable pub partsOf : ℕ → Term → ℕ → Forest

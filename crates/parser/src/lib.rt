@@ -1,7 +1,15 @@
-// Reads the text of a plan file into tables, in one pass.
+// Reads the text of a plan file into tables, in one pass. A position past the end of the text is nowhere: nothing is
+// found there, and what follows it is nowhere too.
+ghost use Prim.Native.Nat.{ℕ, _+_, _≤_, _<_};
 ghost use mathlib.Core.Path.{_≡_};
-ghost use Rattle.format.specs.Parse.{parse};
-ghost use Rattle.parser.specs.Answer.{resultOf};
+ghost use mathlib.Core.List.{[], _∷_};
+ghost use mathlib.Core.Option.{none};
+ghost use lib.ListN.{length, getD, take};
+ghost use Rattle.plan.specs.Limits.{between, longest};
+ghost use Rattle.plan.specs.Plan.{isLetter, isActivity, isNode, nodeOf, activitiesOf, nodesOf};
+ghost use Rattle.format.specs.Parse.{theLines, theEnd};
+ghost use Rattle.parser.specs.Answer.{Answers, verdictOf};
+ghost use Rattle.parser.specs.Steps.{stepped, scanned, isValueOf, started, seen, advance, holes, outcome, anActivity, aNode, Judged, Reads, ReadsCount};
 use plan::Refusal;
 use plan::Tables;
 
@@ -14,4 +22,493 @@ pub enum Verdict {
 pub struct Parsed {
     pub verdict: Verdict,
     pub tables: Tables,
+}
+
+// A run of digits, read as far as `at`.
+struct Digits {
+    at: usize,
+    total: u32,
+}
+
+// A line that is read as far as `next`, with its two latest values.
+struct Line {
+    next: usize,
+    first: u32,
+    second: u32,
+}
+
+// The next line starts at `at` and has the number `line`. Where `at` is nowhere this line is refused: its values are
+// out of range, or it has not its form.
+struct State {
+    at: usize,
+    line: u64,
+    range: bool,
+}
+
+// A line that was read, and the state after it. Where it is refused its values mean nothing.
+struct CountLine {
+    state: State,
+    value: u32,
+}
+
+struct ActivityLine {
+    state: State,
+    resource: u16,
+    duration: u16,
+}
+
+// Lines that were read, and the state after them.
+struct ActivityTable {
+    state: State,
+    resource: [u16; 24],
+    duration: [u16; 24],
+}
+
+struct NodeLine {
+    state: State,
+    letter: u8,
+    number: u8,
+}
+
+struct NodeTable {
+    state: State,
+    letter: [u8; 64],
+    number: [u8; 64],
+}
+
+// A position past the end.
+fn nowhere(file: &[u8]) -> usize
+    ensures { λ r. ⌜ length (now (file .entry)) < r ⌝ }
+{
+    file.len() + 1
+}
+
+// The byte at a position, 0 past the end.
+fn byte(file: &[u8], at: usize) -> u8
+    ensures { λ r. ⌜ r ≡ getD (now (file .entry)) at 0 ⌝ }
+{
+    if at < file.len() { file[at] } else { 0 }
+}
+
+fn wide(b: u8) -> u32
+    ensures { λ r. ⌜ r ≡ b ⌝ }
+{
+    b as u32
+}
+
+fn in_range(low: u32, high: u32, n: u32) -> bool
+    ensures { λ r. ⌜ r ≡ between low high n ⌝ }
+{
+    if low <= n { n <= high } else { false }
+}
+
+// A digit more, where one stands.
+fn digit(file: &[u8], n: Digits) -> Digits
+    requires { ⌜ n .total < 100000 ⌝ }
+    ensures { λ r. ⌜ r ≡ stepped (now (file .entry)) n ⌝ }
+{
+    let at = n.at;
+    let b = wide(byte(file, at));
+    if in_range(48, 57, b) {
+        Digits {
+            at: at + 1,
+            total: n.total * 10 + (b - 48),
+        }
+    } else {
+        n
+    }
+}
+
+// The digits from a position on, at most six of them: a value has no more than five.
+fn scan(file: &[u8], at: usize) -> Digits
+    ensures { λ r. ⌜ r ≡ scanned (now (file .entry)) at ⌝ }
+{
+    let mut n = Digits { at, total: 0 };
+    let mut i: usize = 0;
+    while i < 6 {
+        n = digit(file, n);
+        i += 1;
+    }
+    n
+}
+
+fn is_value(size: usize, first: u8) -> bool
+    ensures { λ r. ⌜ r ≡ isValueOf size first ⌝ }
+{
+    match size {
+        1 => true,
+        2..=5 => first != b'0',
+        _ => false,
+    }
+}
+
+fn is_letter(b: u8) -> bool
+    ensures { λ r. ⌜ r ≡ isLetter b ⌝ }
+{
+    match b {
+        b'a' => true,
+        b's' => true,
+        b'p' => true,
+        b'x' => true,
+        _ => false,
+    }
+}
+
+// A line that has not its form.
+fn lost(file: &[u8]) -> Line
+    ensures { λ r. ⌜ seen (now (file .entry)) r ≡ none ⌝ }
+{
+    Line {
+        next: nowhere(file),
+        first: 0,
+        second: 0,
+    }
+}
+
+// `#` in a form.
+fn value(file: &[u8], line: Line) -> Line
+    ensures { λ r. ⌜ seen (now (file .entry)) r ≡ advance (35 ∷ []) (seen (now (file .entry)) line) ⌝ }
+{
+    let at = line.next;
+    let n = scan(file, at);
+    let size = n.at - at;
+    if is_value(size, byte(file, at)) {
+        Line {
+            next: n.at,
+            first: line.second,
+            second: n.total,
+        }
+    } else {
+        lost(file)
+    }
+}
+
+// `@` in a form.
+fn letter(file: &[u8], line: Line) -> Line
+    ensures { λ r. ⌜ seen (now (file .entry)) r ≡ advance (64 ∷ []) (seen (now (file .entry)) line) ⌝ }
+{
+    let at = line.next;
+    let b = byte(file, at);
+    if is_letter(b) {
+        Line {
+            next: at + 1,
+            first: line.second,
+            second: wide(b),
+        }
+    } else {
+        lost(file)
+    }
+}
+
+// Any other byte of a form.
+fn literal(file: &[u8], line: Line, b: u8) -> Line
+    requires { ⌜ (b ≡ 35 → ⊥) × (b ≡ 64 → ⊥) ⌝ }
+    ensures { λ r. ⌜ seen (now (file .entry)) r ≡ advance (b ∷ []) (seen (now (file .entry)) line) ⌝ }
+{
+    let at = line.next;
+    if at < file.len() {
+        if file[at] == b {
+            return Line {
+                next: at + 1,
+                first: line.first,
+                second: line.second,
+            };
+        }
+    }
+    lost(file)
+}
+
+// One byte of a form.
+fn piece(file: &[u8], line: Line, b: u8) -> Line
+    ensures { λ r. ⌜ seen (now (file .entry)) r ≡ advance (b ∷ []) (seen (now (file .entry)) line) ⌝ }
+{
+    if b == b'#' {
+        return value(file, line);
+    }
+    if b == b'@' {
+        return letter(file, line);
+    }
+    literal(file, line, b)
+}
+
+// The line of a form at a position.
+fn read_line(file: &[u8], at: usize, form: &[u8]) -> Line
+    ensures { λ r. ⌜ seen (now (file .entry)) r ≡ advance (now (form .entry)) (seen (now (file .entry)) (started at)) ⌝ }
+{
+    let mut line = Line {
+        next: at,
+        first: 0,
+        second: 0,
+    };
+    let mut i = 0;
+    while i < form.len() {
+        line = piece(file, line, form[i]);
+        i += 1;
+    }
+    line
+}
+
+// One line after what came before: 2 where it has not its form, then 3 where its values do not fit.
+fn judged(file: &[u8], state: State, line: Line, fits: bool) -> State
+    requires { ⌜ state .line < 1000 ⌝ }
+    ensures { λ r. ⌜ Judged (now (file .entry)) state line fits r ⌝ }
+{
+    let size = file.len();
+    if state.at > size {
+        return state;
+    }
+    if line.next > size {
+        return State {
+            at: line.next,
+            line: state.line,
+            range: false,
+        };
+    }
+    if fits {
+        State {
+            at: line.next,
+            line: state.line + 1,
+            range: false,
+        }
+    } else {
+        State {
+            at: nowhere(file),
+            line: state.line,
+            range: true,
+        }
+    }
+}
+
+// A line of one value.
+fn read_count(file: &[u8], state: State, form: &[u8], low: u32, high: u32) -> CountLine
+    requires { ⌜ (state .line < 1000) × (holes (now form) ≡ 1) ⌝ }
+    ensures { λ r. ⌜ ReadsCount (now (file .entry)) state (now (form .entry)) low high r ⌝ }
+{
+    let at = state.at;
+    let line = read_line(file, at, form);
+    let value = line.second;
+    let fits = in_range(low, high, value);
+    let next = judged(file, state, line, fits);
+    if fits {
+        CountLine { state: next, value }
+    } else {
+        CountLine {
+            state: next,
+            value: 0,
+        }
+    }
+}
+
+fn is_activity(resources: u32, resource: u32, duration: u32) -> bool
+    ensures { λ r. ⌜ r ≡ isActivity resources (record { resource = resource; duration = duration }) ⌝ }
+{
+    if resource < resources {
+        in_range(1, 2000, duration)
+    } else {
+        false
+    }
+}
+
+fn read_activity(file: &[u8], state: State, resources: u32) -> ActivityLine
+    requires { ⌜ (state .line < 1000) × (resources ≤ 16) ⌝ }
+    ensures { λ r. ⌜ Reads (now (file .entry)) state (anActivity resources) 1 (r .state) (record { resource = r .resource; duration = r .duration }) ⌝ }
+{
+    let at = state.at;
+    let line = read_line(file, at, b"act=#,#\n");
+    let resource = line.first;
+    let duration = line.second;
+    let fits = is_activity(resources, resource, duration);
+    let next = judged(file, state, line, fits);
+    if fits {
+        ActivityLine {
+            state: next,
+            resource: resource as u16,
+            duration: duration as u16,
+        }
+    } else {
+        ActivityLine {
+            state: next,
+            resource: 0,
+            duration: 0,
+        }
+    }
+}
+
+fn read_activities(file: &[u8], state: State, resources: u32, acts: usize) -> ActivityTable
+    requires { ⌜ (state .line < 100) × (resources ≤ 16) × (acts ≤ 24) ⌝ }
+    ensures { λ r.
+        ⌜ Reads (now (file .entry)) state (theLines acts (anActivity resources)) acts (r .state)
+        (activitiesOf (take acts (r .resource)) (take acts (r .duration))) ⌝ }
+{
+    let mut last = state;
+    let mut resource = [0u16; 24];
+    let mut duration = [0u16; 24];
+    for i in 0..acts {
+        let act = read_activity(file, last, resources);
+        let next = act.state;
+        last = next;
+        resource[i] = act.resource;
+        duration[i] = act.duration;
+    }
+    ActivityTable {
+        state: last,
+        resource,
+        duration,
+    }
+}
+
+fn is_node(acts: u32, letter: u32, number: u32) -> bool
+    ensures { λ r. ⌜ r ≡ isNode acts (nodeOf letter number) ⌝ }
+{
+    if letter == 97 {
+        number < acts
+    } else {
+        in_range(1, 63, number)
+    }
+}
+
+// The letter of a node as a byte: a node has no other letter.
+fn letter_byte(letter: u32) -> u8
+    ensures { λ r. ⌜ ((n : ℕ) → nodeOf r n ≡ nodeOf letter n) ⌝ }
+{
+    match letter {
+        97 => b'a',
+        115 => b's',
+        112 => b'p',
+        _ => b'x',
+    }
+}
+
+fn read_node(file: &[u8], state: State, acts: u32) -> NodeLine
+    requires { ⌜ (state .line < 1000) × (acts ≤ 24) ⌝ }
+    ensures { λ r. ⌜ Reads (now (file .entry)) state (aNode acts) 1 (r .state) (nodeOf (r .letter) (r .number)) ⌝ }
+{
+    let at = state.at;
+    let line = read_line(file, at, b"node=@,#\n");
+    let letter = letter_byte(line.first);
+    let number = line.second;
+    let fits = is_node(acts, line.first, number);
+    let next = judged(file, state, line, fits);
+    if fits {
+        NodeLine {
+            state: next,
+            letter,
+            number: number as u8,
+        }
+    } else {
+        NodeLine {
+            state: next,
+            letter,
+            number: 0,
+        }
+    }
+}
+
+fn read_nodes(file: &[u8], state: State, acts: u32, nodes: usize) -> NodeTable
+    requires { ⌜ (state .line < 100) × (acts ≤ 24) × (nodes ≤ 64) ⌝ }
+    ensures { λ r.
+        ⌜ Reads (now (file .entry)) state (theLines nodes (aNode acts)) nodes (r .state)
+        (nodesOf (take nodes (r .letter)) (take nodes (r .number))) ⌝ }
+{
+    let mut last = state;
+    let mut letter = [0u8; 64];
+    let mut number = [0u8; 64];
+    for i in 0..nodes {
+        let node = read_node(file, last, acts);
+        let next = node.state;
+        last = next;
+        letter[i] = node.letter;
+        number[i] = node.number;
+    }
+    NodeTable {
+        state: last,
+        letter,
+        number,
+    }
+}
+
+// Nothing may follow the last line.
+fn read_end(file: &[u8], state: State) -> State
+    ensures { λ r. ⌜ Reads (now (file .entry)) state theEnd 0 r tt ⌝ }
+{
+    if state.at < file.len() {
+        State {
+            at: nowhere(file),
+            line: state.line,
+            range: false,
+        }
+    } else {
+        state
+    }
+}
+
+fn verdict_of(file: &[u8], state: State) -> Verdict
+    ensures { λ r. ⌜ r ≡ verdictOf (outcome (now (file .entry)) state (tt {0})) ⌝ }
+{
+    if state.at <= file.len() {
+        return Verdict::Accepted;
+    }
+    if state.range {
+        Verdict::Refused(Refusal::Range(state.line))
+    } else {
+        Verdict::Refused(Refusal::Form(state.line))
+    }
+}
+
+fn read_plan(file: &[u8]) -> Parsed
+    requires { ⌜ (0 < length (now file)) × (length (now file) ≤ longest) ⌝ }
+    ensures { λ r. ⌜ Answers (now (file .entry)) r ⌝ }
+{
+    let start = State {
+        at: 0,
+        line: 1,
+        range: false,
+    };
+    let edition = read_count(file, start, b"plan=#\n", 1, 1);
+    let resources = read_count(file, edition.state, b"res=#\n", 1, 16);
+    let acts = read_count(file, resources.state, b"acts=#\n", 1, 24);
+    let count = acts.value as usize;
+    let table = read_activities(file, acts.state, resources.value, count);
+    let nodes = read_count(file, table.state, b"nodes=#\n", 1, 64);
+    let size = nodes.value as usize;
+    let tree = read_nodes(file, nodes.state, acts.value, size);
+    let last = read_end(file, tree.state);
+    let resource = table.resource;
+    let duration = table.duration;
+    let letter = tree.letter;
+    let number = tree.number;
+    let tables = Tables {
+        resources: resources.value as u16,
+        acts: count,
+        resource,
+        duration,
+        nodes: size,
+        letter,
+        number,
+    };
+    let verdict = verdict_of(file, last);
+    Parsed { verdict, tables }
+}
+
+fn refused(refusal: Refusal) -> Parsed
+    ensures { λ r. ⌜ r .verdict ≡ Verdict.Refused refusal ⌝ }
+{
+    Parsed {
+        verdict: Verdict::Refused(refusal),
+        tables: Tables::empty(),
+    }
+}
+
+// The plan that a text holds, or the first reason against it.
+pub fn parse_file(file: &[u8]) -> Parsed
+    ensures { λ r. ⌜ Answers (now (file .entry)) r ⌝ }
+{
+    let size = file.len();
+    if size == 0 {
+        return refused(Refusal::Length);
+    }
+    if size > 959 {
+        return refused(Refusal::Length);
+    }
+    read_plan(file)
 }

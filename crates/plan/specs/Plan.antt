@@ -2,6 +2,7 @@
 use Prim.Native.Nat.{ℕ}
 use mathlib.Core.Bool.{Bool, true, false, _&&_, _||_}
 use mathlib.Core.List.{List, [], _∷_}
+use mathlib.Core.Path.{_≡_}
 use lib.Dec.{leb, ltb, eqb}
 use lib.ListN.{length, take}
 use Rattle.plan.specs.Limits.{isResourceCount, isActCount, isDuration, isNodeCount, isChildCount}
@@ -82,3 +83,10 @@ planOf t =
       activities = activitiesOf (take (t .acts) (t .resource)) (take (t .acts) (t .duration));
       nodes = nodesOf (take (t .nodes) (t .letter)) (take (t .nodes) (t .number));
     }
+
+-- The arrays of the tables have their lengths.
+pub record Sized (t : Tables) : Type 0 where
+  pub resource : length (t .resource) ≡ 24
+  pub duration : length (t .duration) ≡ 24
+  pub letter : length (t .letter) ≡ 64
+  pub number : length (t .number) ≡ 64

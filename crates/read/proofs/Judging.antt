@@ -20,7 +20,7 @@ use Rattle.survey.specs.declared.Survey.{Survey}
 use Rattle.parser.specs.declared.Verdict.the-variants.{Accepted, Refused}
 use Rattle.read.specs.Judge
 use Rattle.read.specs.Judge.{judge, judgeTerm, judgeVariants, judgeResult}
-use Rattle.read.specs.Answer.{judgedTerm, judgedVariants, verdictOf, variantsOf, withTerm, Ranged, Judges}
+use Rattle.read.specs.Answer.{judgedTerm, judgedVariants, Ranged, Judges}
 use Rattle.read.specs.declared.Judged.{Judged}
 
 module _ (tables : Tables) (s : Survey) where
@@ -58,52 +58,36 @@ module _ (tables : Tables) (s : Survey) where
       rw (sym (ap (λ (x : Survey). x .twice) e) ∙ d, le-ltb mostVariants (variantCount t) few)
       (ap (λ (n : ℕ). record { verdict = Accepted; tables = tables; variants = n }) (omega arith))
 
+never : {A : Type 0} {r : Refusal} → Refused r ≡ Accepted → A
+never e = absurd (let z : _≡_ {A = ℕ} 0 1 = cc in omega arith)
+
+other : {A : Type 0} {r : Refusal} → Accepted ≡ Refused r → A
+other e = absurd (let z : _≡_ {A = ℕ} 0 1 = cc in omega arith)
+
+same : {q r : Refusal} → Refused q ≡ Refused r → q ≡ r
+same e = cc
+
 -- The program's judgement of a term is the verdict on it.
-judged-verdict :
-    (tables : Tables) (t : Term) (a b : Bool) → termOf (planOf tables .nodes) ≡ some t → ltb mostVariants (variantCount t) ≡ b
-    → (verdictOf (judgedVariants tables t a b) ≡ judgeVariants (planOf tables) t a b)
-    × (judgedVariants tables t a b .variants ≡ variantsOf (judgeVariants (planOf tables) t a b))
-judged-verdict tables t true b e l = (refl, refl)
-judged-verdict tables t false true e l = (refl, refl)
-judged-verdict tables t false false e l = (ap (withTerm (planOf tables)) e, refl)
+module _ (s : List ℕ) (tables : Tables) (ranged : Ranged tables) where
+  variants-judged :
+      (t : Term) (a b : Bool) → judge s ≡ judgeVariants (planOf tables) t a b → Judges s (judgedVariants tables t a b)
+  variants-judged t true b e = record { accepted = never; refused = λ r f. e ∙ ap Judge.refuses (same f) }
+  variants-judged t false true e = record { accepted = never; refused = λ r f. e ∙ ap Judge.refuses (same f) }
+  variants-judged t false false e =
+      record { accepted = λ f. record { term = t; verdict = e; variants = refl; ranged = ranged }; refused = λ r f. other f }
 
-term-judged :
-    (tables : Tables) (o : Option Term) → termOf (planOf tables .nodes) ≡ o
-    → (verdictOf (judgedTerm tables o) ≡ judgeTerm (planOf tables) o)
-    × (judgedTerm tables o .variants ≡ variantsOf (judgeTerm (planOf tables) o))
-    × (judgedTerm tables o .tables ≡ tables)
-term-judged tables none e = (refl, refl, refl)
-term-judged tables (some t) e =
-    let h = judged-verdict tables t (twice t) (ltb mostVariants (variantCount t)) e refl in
-    (h .0, h .1, same (twice t) (ltb mostVariants (variantCount t)))
-  where
-    same : (a b : Bool) → judgedVariants tables t a b .tables ≡ tables
-    same true b = refl
-    same false true = refl
-    same false false = refl
+  term-judged : (o : Option Term) → judge s ≡ judgeTerm (planOf tables) o → Judges s (judgedTerm tables o)
+  term-judged none e = record { accepted = never; refused = λ r f. e ∙ ap Judge.refuses (same f) }
+  term-judged (some t) e = variants-judged t (twice t) (ltb mostVariants (variantCount t)) e
 
--- What a parsed text that holds a plan says of the whole file.
-pub judges-plan :
-    (s : List ℕ) (tables : Tables) (j : Judged) → parse s ≡ holds (planOf tables) → Ranged tables
-    → j ≡ judgedTerm tables (termOf (planOf tables .nodes)) → Judges s j
-unfolding judge
-judges-plan s tables j e r ej =
-    let h = term-judged tables (termOf (planOf tables .nodes)) refl in
-    let js : judge s ≡ judgeTerm (planOf tables) (termOf (planOf tables .nodes)) = ap judgeResult e in
-    record {
-      verdict = ap verdictOf ej ∙ h .0 ∙ sym js;
-      variants = ap (λ (x : Judged). x .variants) ej ∙ h .1 ∙ ap variantsOf (sym js);
-      ranged = λ v. subst Ranged (sym (ap (λ (x : Judged). x .tables) ej ∙ h .2)) r;
-    }
+  -- What a text that holds a plan says of the whole file.
+  pub judges-plan :
+      (j : Judged) → parse s ≡ holds (planOf tables) → j ≡ judgedTerm tables (termOf (planOf tables .nodes)) → Judges s j
+  unfolding judge
+  judges-plan j e ej = subst (Judges s) (sym ej) (term-judged (termOf (planOf tables .nodes)) (ap judgeResult e))
 
 pub judges-refusal :
     (s : List ℕ) (r : Refusal) (tables : Tables) → parse s ≡ refuses r
     → Judges s (record { verdict = Refused r; tables = tables; variants = 0 })
 unfolding judge
-judges-refusal s r tables e =
-    let js : judge s ≡ Judge.refuses r = ap judgeResult e in
-    record {
-      verdict = sym js;
-      variants = ap variantsOf (sym js);
-      ranged = λ v. absurd (let z : _≡_ {A = ℕ} 0 1 = cc in omega arith);
-    }
+judges-refusal s r tables e = record { accepted = never; refused = λ q f. ap judgeResult e ∙ ap Judge.refuses (same f) }

@@ -3,3 +3,5 @@ pub mod Accepts
 pub mod Model
 pub mod Ranges
 pub mod Judging
+pub mod Parsing
+pub mod Reading

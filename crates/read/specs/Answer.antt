@@ -7,8 +7,9 @@ use mathlib.Core.Bool.{Bool, true, false}
 use lib.Dec.{ltb}
 use lib.ListN.{length}
 use Rattle.plan.specs.Limits.{mostVariants}
-use Rattle.plan.specs.Plan.{Plan, planOf, isPlan}
+use Rattle.plan.specs.Plan.{Plan, planOf, isPlan, Sized}
 use Rattle.plan.specs.declared.Tables.{Tables}
+use Rattle.plan.specs.declared.Refusal.{Refusal}
 use Rattle.plan.specs.declared.Refusal.the-variants.{NotOneTerm, Twice, TooManyVariants}
 use Rattle.term.specs.Term.{Term, termOf}
 use Rattle.term.specs.Variants.{variantCount, twice}
@@ -25,30 +26,23 @@ answerTo (refuses r) = the-variants.Refused r
 unfoldable pub readOf : List ℕ → ReadAnswer
 readOf s = answerTo (judge s)
 
--- What the program's judgement of a file says: the verdict, and the number of variants of an accepted plan.
-abbrev pub withTerm : Plan → Option Term → Verdict
-withTerm p none = refuses NotOneTerm
-withTerm p (some t) = accepts p t
-
-abbrev pub verdictOf : Judged → Verdict
-verdictOf j =
-    elim (j .verdict)
-    [ Accepted ↦ withTerm (planOf (j .tables)) (termOf (planOf (j .tables) .nodes)) | Refused r ↦ refuses r ]
-
-abbrev pub variantsOf : Verdict → ℕ
-variantsOf (accepts p t) = variantCount t
-variantsOf (refuses r) = 0
-
 -- The tables hold a plan whose values are in range.
 pub record Ranged (tables : Tables) : Type 0 where
   pub acts : tables .acts ≤ 24
   pub nodes : tables .nodes ≤ 64
   pub ranges : isPlan (planOf tables) ≡ true
+  pub sized : Sized tables
+
+-- What the program's judgement of a file says: the refusal, or the plan in its tables with its term and V.
+pub record Accepts (s : List ℕ) (j : Judged) : Type 0 where
+  pub term : Term
+  pub verdict : judge s ≡ accepts (planOf (j .tables)) term
+  pub variants : j .variants ≡ variantCount term
+  pub ranged : Ranged (j .tables)
 
 pub record Judges (s : List ℕ) (j : Judged) : Type 0 where
-  pub verdict : verdictOf j ≡ judge s
-  pub variants : j .variants ≡ variantsOf (judge s)
-  pub ranged : j .verdict ≡ Accepted → Ranged (j .tables)
+  pub accepted : j .verdict ≡ Accepted → Accepts s j
+  pub refused : (r : Refusal) → j .verdict ≡ Refused r → judge s ≡ refuses r
 
 -- The judgement of tables by their term.
 abbrev pub judgedVariants : Tables → Term → Bool → Bool → Judged

@@ -57,3 +57,37 @@ fn judge_term(tables: Tables) -> Judged
         variants: s.variants,
     }
 }
+
+// The judgement of a plan file.
+pub fn judge(file: &[u8]) -> Judged
+    ensures { λ j. ⌜ Judges (now (file .entry)) j ⌝ }
+{
+    let parsed = parser::parse_file(file);
+    let verdict = parsed.verdict;
+    let tables = parsed.tables;
+    match verdict {
+        Verdict::Accepted => judge_term(tables),
+        Verdict::Refused(r) => Judged {
+            verdict: Verdict::Refused(r),
+            tables,
+            variants: 0,
+        },
+    }
+}
+
+// READ: the number of activities, of nodes and of variants.
+pub fn read(file: &[u8]) -> ReadAnswer
+    ensures { λ r. ⌜ r ≡ readOf (now (file .entry)) ⌝ }
+{
+    let judged = judge(file);
+    let verdict = judged.verdict;
+    let tables = judged.tables;
+    match verdict {
+        Verdict::Accepted => ReadAnswer::Read {
+            acts: tables.acts as u64,
+            nodes: tables.nodes as u64,
+            variants: judged.variants as u64,
+        },
+        Verdict::Refused(r) => ReadAnswer::Refused(r),
+    }
+}

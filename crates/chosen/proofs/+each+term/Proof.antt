@@ -58,7 +58,9 @@ term-calls t = (
 
 module _ (t : ℕ) where
   each-returns : each-lts.Need-returns (each-calls t) (each-at t) each.Post
-  each-returns c = let a = c .before .before .before .args in none-grown (a .kind) (a .k) _ (a .v) (c .if1 .taken) (c .before .before .before .pre .1 .going .held)
+  each-returns c =
+      let s = c .before .before .before in
+      none-grown (s .args .kind) (s .args .k) _ (s .args .v) (c .if1 .taken) (s .pre .1 .going .held)
 
   each-mul-split : each-lts.Need-mul-split (each-calls t) (each-at t) each.Post
   each-mul-split c = omega (arith, each-in-tables (c .before .before .before .pre .1) (c .if1 .left))
@@ -70,7 +72,10 @@ module _ (t : ℕ) where
   each-split-requires c κs = split-ready (c .before .before .before .before .pre .1) (c .before .if1 .left)
 
   each-term-requires : each-lts.Need-term-requires (each-calls t) (each-at t) each.Post
-  each-term-requires c κs = (fall-first (length (c .before .before .before .before .before .args .letter .now)) (c .before .before .before .before .before .args .at) t (c .before .before .before .before .before .pre .0), first-ready (c .before .before .before .before .before .pre .1) (c .before .before .if1 .left) (c .split .ensures))
+  each-term-requires c κs =
+      let s = c .before .before .before .before .before in
+      let some = c .before .before .if1 .left in
+      (fall-first (length (s .args .letter .now)) (s .args .at) t (s .pre .0), first-ready (s .pre .1) some (c .split .ensures))
 
   each-sub-each : each-lts.Need-sub-each (each-calls t) (each-at t) each.Post
   each-sub-each c = each-some (c .before .before .before .before .before .before .pre .1) (c .before .before .before .if1 .left)
@@ -82,13 +87,18 @@ module _ (t : ℕ) where
   each-element-copy-out-each c = each-in-tables (c .before .before .before .before .before .before .pre .1) (c .before .before .before .if1 .left)
 
   each-each-requires : each-lts.Need-each-requires (each-calls t) (each-at t) each.Post
-  each-each-requires c κs = (
-    fall-others (length (c .before .before .before .before .before .before .before .args .letter .now)) (c .before .before .before .before .before .before .before .args .at) _ t (each-in-letters (c .before .before .before .before .before .before .before .pre .1) (c .before .before .before .before .if1 .left)) (each-later (c .before .before .before .before .before .before .before .pre .1) (c .before .before .before .before .if1 .left)) (c .before .before .before .before .before .before .before .pre .0),
-    others-ready (c .before .before .before .before .before .before .before .pre .1) (c .before .before .before .before .if1 .left) (c .before .before .split .ensures) (c .before .before .before .before .before .before .before .args .kind) (c .before .term .ensures),
-  )
+  each-each-requires c κs =
+      let s = c .before .before .before .before .before .before .before in
+      let some = c .before .before .before .before .if1 .left in (
+        fall-others (length (s .args .letter .now)) (s .args .at) _ t (each-in-letters (s .pre .1) some) (each-later (s .pre .1) some) (s .pre .0),
+        others-ready (s .pre .1) some (c .before .before .split .ensures) (s .args .kind) (c .before .term .ensures),
+      )
 
   each-returns-2 : each-lts.Need-returns-2 (each-calls t) (each-at t) each.Post
-  each-returns-2 c = all-grown (c .before .before .before .before .before .before .before .before .pre .1) (c .before .before .before .before .before .if1 .left) (c .before .before .before .split .ensures) (c .before .before .before .before .before .before .before .before .args .kind) (c .before .before .term .ensures) (c .each .ensures)
+  each-returns-2 c =
+      let s = c .before .before .before .before .before .before .before .before in
+      let some = c .before .before .before .before .before .if1 .left in
+      all-grown (s .pre .1) some (c .before .before .before .split .ensures) (s .args .kind) (c .before .before .term .ensures) (c .each .ensures)
 
   term-shared-slice-read-l : term-lts.Need-shared-slice-read-l (term-calls t) (term-at t) term.Post
   term-shared-slice-read-l c = in-letters (c .before .before .before .pre .1)
@@ -112,7 +122,10 @@ module _ (t : ℕ) where
   term-element-copy-out-each c = in-tables (c .before .before .before .before .before .before .pre .1)
 
   term-each-requires : term-lts.Need-each-requires (term-calls t) (term-at t) term.Post
-  term-each-requires c κs = (fall-children (length (c .before .before .before .before .before .before .before .args .letter .now)) (c .before .before .before .before .before .before .before .args .at) t (in-letters (c .before .before .before .before .before .before .before .pre .1)) (c .before .before .before .before .before .before .before .pre .0), opened-ready (c .before .before .before .before .before .before .before .pre .1) (together _ (c .before .before .match .keys2)))
+  term-each-requires c κs =
+      let s = c .before .before .before .before .before .before .before in
+      let group = together _ (c .before .before .match .keys2) in
+      (fall-children (length (s .args .letter .now)) (s .args .at) t (in-letters (s .pre .1)) (s .pre .0), opened-ready (s .pre .1) group)
 
   term-add-each-2 : term-lts.Need-add-each-2 (term-calls t) (term-at t) term.Post
   term-add-each-2 c = omega (arith, in-tables (c .before .before .before .before .before .before .pre .1))
@@ -127,7 +140,10 @@ module _ (t : ℕ) where
   term-opened-requires-2 c κs = draft-room (c .before .before .before .before .before .before .before .pre .1) .0
 
   term-each-requires-2 : term-lts.Need-each-requires-2 (term-calls t) (term-at t) term.Post
-  term-each-requires-2 c κs = (fall-children (length (c .before .before .before .before .before .before .before .before .args .letter .now)) (c .before .before .before .before .before .before .before .before .args .at) t (in-letters (c .before .before .before .before .before .before .before .before .pre .1)) (c .before .before .before .before .before .before .before .before .pre .0), kept-ready (c .before .before .before .before .before .before .before .before .pre .1) (together _ (c .before .before .before .match .keys2)) (c .opened2 .ensures))
+  term-each-requires-2 c κs =
+      let s = c .before .before .before .before .before .before .before .before in
+      let group = together _ (c .before .before .before .match .keys2) in
+      (fall-children (length (s .args .letter .now)) (s .args .at) t (in-letters (s .pre .1)) (s .pre .0), kept-ready (s .pre .1) group (c .opened2 .ensures))
 
   term-closed-requires-2 : term-lts.Need-closed-requires-2 (term-calls t) (term-at t) term.Post
   term-closed-requires-2 c κs = draft-room (c .before .before .before .before .before .before .before .before .before .pre .1)
@@ -136,23 +152,43 @@ module _ (t : ℕ) where
   term-add-alternative c = omega (arith, in-tables (c .before .before .before .before .before .pre .1))
 
   term-alternative-requires : term-lts.Need-alternative-requires (term-calls t) (term-at t) term.Post
-  term-alternative-requires c κs = (_, apart-ready (c .before .before .before .before .before .pre .1) (node-xor _ _ (c .match .rest .0 .1) (c .match .rest .1)))
+  term-alternative-requires c κs =
+      let s = c .before .before .before .before .before in
+      let x = node-xor _ _ (c .match .rest .0 .1) (c .match .rest .1) in
+      (_, apart-ready (s .pre .1) x)
 
   term-term-requires : term-lts.Need-term-requires (term-calls t) (term-at t) term.Post
-  term-term-requires c κs = let found = c .alternative .ensures _ (apart-ready (c .before .before .before .before .before .before .pre .1) (node-xor _ _ (c .before .match .rest .0 .1) (c .before .match .rest .1))) in
-      (fall-one (length (c .before .before .before .before .before .before .args .letter .now)) (c .before .before .before .before .before .before .args .at) _ t (in-letters (c .before .before .before .before .before .before .pre .1)) (found .later) (c .before .before .before .before .before .before .pre .0), one-ready (c .before .before .before .before .before .before .pre .1) (node-xor _ _ (c .before .match .rest .0 .1) (c .before .match .rest .1)) found)
+  term-term-requires c κs =
+      let s = c .before .before .before .before .before .before in
+      let x = node-xor _ _ (c .before .match .rest .0 .1) (c .before .match .rest .1) in
+      let found = c .alternative .ensures _ (apart-ready (s .pre .1) x) in
+      (fall-one (length (s .args .letter .now)) (s .args .at) _ t (in-letters (s .pre .1)) (found .later) (s .pre .0), one-ready (s .pre .1) x found)
 
   term-returns : term-lts.Need-returns (term-calls t) (term-at t) term.Post
-  term-returns c = act-grown (c .before .before .before .before .before .before .before .pre .1) (c .before .opened .ensures) (c .before .before .before .before .before .before .before .args .kind) _ (c .before .before .match .keys1) (c .closed .ensures)
+  term-returns c =
+      let s = c .before .before .before .before .before .before .before in
+      act-grown (s .pre .1) (c .before .opened .ensures) (s .args .kind) _ (c .before .before .match .keys1) (c .closed .ensures)
 
   term-returns-2 : term-lts.Need-returns-2 (term-calls t) (term-at t) term.Post
-  term-returns-2 c = opened-grown (c .before .before .before .before .before .before .before .before .pre .1) (together _ (c .before .before .before .match .keys2)) (c .before .before .before .before .before .before .before .before .args .kind) _ (c .before .before .if1 .taken) (c .each .ensures)
+  term-returns-2 c =
+      let s = c .before .before .before .before .before .before .before .before in
+      let group = together _ (c .before .before .before .match .keys2) in
+      opened-grown (s .pre .1) group (s .args .kind) _ (c .before .before .if1 .taken) (c .each .ensures)
 
   term-returns-3 : term-lts.Need-returns-3 (term-calls t) (term-at t) term.Post
-  term-returns-3 c = kept-grown (c .before .before .before .before .before .before .before .before .before .before .pre .1) (together _ (c .before .before .before .before .before .match .keys2)) (c .before .before .before .before .before .before .before .before .before .before .args .kind) _ _ _ (c .before .before .before .before .if1 .left) (c .before .before .opened2 .ensures) (c .before .each2 .ensures) (c .closed2 .ensures)
+  term-returns-3 c =
+      let s = c .before .before .before .before .before .before .before .before .before .before in
+      let group = together _ (c .before .before .before .before .before .match .keys2) in
+      kept-grown (s .pre .1) group (s .args .kind) _ _ _ (c .before .before .before .before .if1 .left)
+      (c .before .before .opened2 .ensures)
+      (c .before .each2 .ensures)
+      (c .closed2 .ensures)
 
   term-returns-4 : term-lts.Need-returns-4 (term-calls t) (term-at t) term.Post
-  term-returns-4 c = one-grown (c .before .before .before .before .before .before .before .pre .1) (node-xor _ _ (c .before .before .match .rest .0 .1) (c .before .before .match .rest .1)) (c .before .before .before .before .before .before .before .args .kind) (c .before .alternative .ensures _ (apart-ready (c .before .before .before .before .before .before .before .pre .1) (node-xor _ _ (c .before .before .match .rest .0 .1) (c .before .before .match .rest .1)))) (c .term .ensures)
+  term-returns-4 c =
+      let s = c .before .before .before .before .before .before .before in
+      let x = node-xor _ _ (c .before .before .match .rest .0 .1) (c .before .before .match .rest .1) in
+      one-grown (s .pre .1) x (s .args .kind) (c .before .alternative .ensures _ (apart-ready (s .pre .1) x)) (c .term .ensures)
 
 pub +each+term-spec : {M : Type 1} → statement M
 +each+term-spec =

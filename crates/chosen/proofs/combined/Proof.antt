@@ -1,3 +1,4 @@
+-- `combined` adds or multiplies, as it is told.
 use mathlib.Core.Bool.{Bool}
 use mathlib.Core.Path.{sym, ap}
 use Rattle.chosen.specs.Model.{combine}

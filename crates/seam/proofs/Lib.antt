@@ -1,0 +1,9 @@
+-- From the search of each variant to the plan as a whole.
+pub mod Lists
+pub mod Variant
+pub mod Posed
+pub mod Found
+pub mod Pairs
+pub mod Rows
+pub mod Shortest
+pub mod Answers

@@ -1,0 +1,5 @@
+-- Laws that the proofs of the writer's functions cite.
+pub mod Laws
+pub mod Lines
+pub mod Nodes
+pub mod Text

@@ -1,0 +1,2 @@
+-- What the writer's steps leave in the area.
+pub mod Wrote

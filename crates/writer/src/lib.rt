@@ -1,0 +1,200 @@
+// Writes the text of a plan file into a lent area, in one pass. A byte that would stand past the area's end is counted
+// and not stored, so that the pass over an empty area measures the text. Places are required to be far below the
+// largest number, so that no sum wraps.
+ghost use Prim.Native.Nat.{ℕ, _+_, _≤_, _<_, _^_};
+ghost use mathlib.Core.Path.{_≡_};
+ghost use mathlib.Core.List.{[], _∷_};
+ghost use lib.ListN.{length, take};
+ghost use Rattle.plan.specs.Limits.{mostDigits, actForm, nodeForm};
+ghost use Rattle.plan.specs.Plan.{letterOf, nodeOf, valueOf, activitiesOf, nodesOf, planOf};
+ghost use Rattle.format.specs.Lines.{written, filled};
+ghost use Rattle.format.specs.Text.{actLines, nodeLines, text};
+ghost use Rattle.writer.specs.Wrote.{Wrote, WrotePiece, LettersFit, Holds};
+use plan::Tables;
+
+// A line that is written as far as `at`, with the values that are next.
+struct Line {
+    at: usize,
+    first: u16,
+    second: u16,
+}
+
+fn put_byte(area: &mut [u8], at: usize, b: u8) -> usize
+    requires { ⌜ at + 1 < 2 ^ 64 ⌝ }
+    ensures { λ r. ⌜ Wrote (now (area .entry)) at (b ∷ []) r (now (area .exit)) ⌝ }
+{
+    if at < area.len() {
+        area[at] = b;
+    }
+    at + 1
+}
+
+fn digit_of(n: u16) -> u8
+    requires { ⌜ n < 10 ⌝ }
+    ensures { λ r. ⌜ r ≡ 48 + n ⌝ }
+{
+    b'0' + n as u8
+}
+
+// The decimal digits of a number, the most significant first.
+fn put_value(area: &mut [u8], at: usize, n: u16) -> usize
+    requires { ⌜ at < 10000 ⌝ }
+    ensures { λ r. ⌜ Wrote (now (area .entry)) at (written mostDigits n) r (now (area .exit)) ⌝ }
+{
+    if n < 10 {
+        return put_byte(area, at, digit_of(n));
+    }
+    let next = put_value(area, at, n / 10);
+    put_byte(area, next, digit_of(n % 10))
+}
+
+// What a byte of a form stands for: `#` for a value, `@` for a letter, any other for itself.
+fn put_piece(area: &mut [u8], line: Line, b: u8) -> Line
+    requires { ⌜ (line .at < 10000) × (b ≡ 64 → line .first < 256) ⌝ }
+    ensures { λ r. ⌜ WrotePiece (now (area .entry)) line b r (now (area .exit)) ⌝ }
+{
+    let at = line.at;
+    let first = line.first;
+    if b == b'#' {
+        return Line {
+            at: put_value(area, at, first),
+            first: line.second,
+            second: 0,
+        };
+    }
+    if b == b'@' {
+        return Line {
+            at: put_byte(area, at, first as u8),
+            first: line.second,
+            second: 0,
+        };
+    }
+    Line {
+        at: put_byte(area, at, b),
+        first,
+        second: line.second,
+    }
+}
+
+fn put_line(area: &mut [u8], at: usize, form: &[u8], first: u16, second: u16) -> usize
+    requires { ⌜ (at < 9000) × (length (now form) < 100) × LettersFit (now form) first second ⌝ }
+    ensures { λ r. ⌜ Wrote (now (area .entry)) at (filled (now (form .entry)) (first ∷ second ∷ [])) r (now (area .exit)) ⌝ }
+{
+    let mut line = Line { at, first, second };
+    let mut i = 0;
+    while i < form.len() {
+        line = put_piece(area, line, form[i]);
+        i += 1;
+    }
+    line.at
+}
+
+fn put_activity(area: &mut [u8], at: usize, resource: u16, duration: u16) -> usize
+    requires { ⌜ at < 9000 ⌝ }
+    ensures { λ r. ⌜ Wrote (now (area .entry)) at (filled actForm (resource ∷ duration ∷ [])) r (now (area .exit)) ⌝ }
+{
+    put_line(area, at, b"act=#,#\n", resource, duration)
+}
+
+fn put_activities(
+    area: &mut [u8],
+    at: usize,
+    resource: [u16; 24],
+    duration: [u16; 24],
+    acts: usize,
+) -> usize
+    requires { ⌜ (at < 200) × (acts ≤ 24) ⌝ }
+    ensures { λ r.
+        ⌜ Wrote (now (area .entry)) at
+        (actLines (activitiesOf (take acts resource) (take acts duration)))
+        r (now (area .exit)) ⌝ }
+{
+    let mut next = at;
+    for i in 0..acts {
+        next = put_activity(area, next, resource[i], duration[i]);
+    }
+    next
+}
+
+// The letter of a node: there is no other than these four.
+fn letter_of(letter: u8) -> u8
+    ensures { λ r. ⌜ ((n : ℕ) → r ≡ letterOf (nodeOf letter n)) ⌝ }
+{
+    match letter {
+        b'a' => b'a',
+        b's' => b's',
+        b'p' => b'p',
+        _ => b'x',
+    }
+}
+
+fn wide(b: u8) -> u16
+    ensures { λ r. ⌜ r ≡ b ⌝ }
+{
+    b as u16
+}
+
+fn put_node(area: &mut [u8], at: usize, letter: u8, number: u8) -> usize
+    requires { ⌜ at < 9000 ⌝ }
+    ensures { λ r.
+        ⌜ Wrote (now (area .entry)) at
+        (filled nodeForm (letterOf (nodeOf letter number) ∷ valueOf (nodeOf letter number) ∷ []))
+        r (now (area .exit)) ⌝ }
+{
+    put_line(
+        area,
+        at,
+        b"node=@,#\n",
+        wide(letter_of(letter)),
+        wide(number),
+    )
+}
+
+fn put_nodes(area: &mut [u8], at: usize, letter: [u8; 64], number: [u8; 64], nodes: usize) -> usize
+    requires { ⌜ (at < 2000) × (nodes ≤ 64) ⌝ }
+    ensures { λ r.
+        ⌜ Wrote (now (area .entry)) at
+        (nodeLines (nodesOf (take nodes letter) (take nodes number)))
+        r (now (area .exit)) ⌝ }
+{
+    let mut next = at;
+    for i in 0..nodes {
+        next = put_node(area, next, letter[i], number[i]);
+    }
+    next
+}
+
+fn put_text(area: &mut [u8], tables: Tables) -> usize
+    requires { ⌜ (tables .acts ≤ 24) × (tables .nodes ≤ 64) ⌝ }
+    ensures { λ r. ⌜ Wrote (now (area .entry)) 0 (text (planOf tables)) r (now (area .exit)) ⌝ }
+{
+    let acts = tables.acts;
+    let nodes = tables.nodes;
+    let resource = tables.resource;
+    let duration = tables.duration;
+    let letter = tables.letter;
+    let number = tables.number;
+    let mut at = put_line(area, 0, b"plan=#\n", 1, 0);
+    at = put_line(area, at, b"res=#\n", tables.resources, 0);
+    at = put_line(area, at, b"acts=#\n", acts as u16, 0);
+    at = put_activities(area, at, resource, duration, acts);
+    at = put_line(area, at, b"nodes=#\n", nodes as u16, 0);
+    put_nodes(area, at, letter, number, nodes)
+}
+
+// The length of the text of a plan.
+pub fn text_length(tables: Tables) -> usize
+    requires { ⌜ (tables .acts ≤ 24) × (tables .nodes ≤ 64) ⌝ }
+    ensures { λ r. ⌜ r ≡ length (text (planOf tables)) ⌝ }
+{
+    let mut none = [0u8; 0];
+    put_text(&mut none, tables)
+}
+
+// The text of a plan at the front of the area, and its length. What stands after it in the area stays.
+pub fn write_text(tables: Tables, area: &mut [u8]) -> usize
+    requires { ⌜ (tables .acts ≤ 24) × (tables .nodes ≤ 64) × (length (text (planOf tables)) ≤ length (now area)) ⌝ }
+    ensures { λ r. ⌜ Holds (text (planOf tables)) (now (area .entry)) (now (area .exit)) r ⌝ }
+{
+    put_text(area, tables)
+}
