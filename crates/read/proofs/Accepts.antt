@@ -20,14 +20,8 @@ use Rattle.format.proofs.Short.{text-short}
 use Rattle.format.proofs.Longest.{longestPlan, longest-is-plan, longest-length}
 use Rattle.term.specs.Term.{Term, Forest, act, xor, nil, cons, termOf, forest, place, size, firsts, others}
 use Rattle.term.specs.Variants.{variantCount, twice, variants, some-of, repeats, activities, member}
+pub use Rattle.read.specs.Valid.{Valid}
 use Rattle.read.specs.Judge.{Verdict, accepts, refuses, judge, judgeTerm, judgeVariants, judgeResult}
-
--- A valid plan and its term.
-pub record Valid (p : Plan) (t : Term) : Type 0 where
-  pub ranges : isPlan p ≡ true
-  pub term : termOf (p .nodes) ≡ some t
-  pub once : twice t ≡ false
-  pub few : variantCount t ≤ mostVariants
 
 abbrev many : ℕ → Term → Forest
 many zero t = nil

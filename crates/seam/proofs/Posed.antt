@@ -26,7 +26,7 @@ unfoldable pub setOf : ℕ → (ℕ → Bool) → ℕ
 setOf zero f = 0
 setOf (suc n) f = cond (f 0) 1 0 + 2 * setOf n (λ i. f (suc i))
 
-set-below : (n : ℕ) (f : ℕ → Bool) → setOf n f < 2 ^ n
+pub set-below : (n : ℕ) (f : ℕ → Bool) → setOf n f < 2 ^ n
 unfolding setOf
 set-below zero f = omega arith
 set-below (suc n) f = omega (arith, cond-le (f 0) 1, set-below n (λ i. f (suc i)), pow-suc 2 n)
@@ -48,7 +48,7 @@ set-has (suc n) f (suc i) l =
     ∙ ap (λ (x : ℕ). has x i) (omega (arith, cond-le (f 0) 1))
     ∙ set-has n (λ i. f (suc i)) i (omega arith)
 
-set-is : (n : ℕ) (f : ℕ → Bool) → ((i : ℕ) → f i ≡ true → i < n) → (i : ℕ) → has (setOf n f) i ≡ f i
+pub set-is : (n : ℕ) (f : ℕ → Bool) → ((i : ℕ) → f i ≡ true → i < n) → (i : ℕ) → has (setOf n f) i ≡ f i
 set-is n f inside i =
     by-cases
     (decLt i n)
@@ -57,7 +57,7 @@ set-is n f inside i =
     has-above n (setOf n f) i (set-below n f) (omega arith)
     ∙ by-bool (f i) (λ y. absurd (omega (arith, inside i y))) sym)
 
-pub problemOf : Plan → Term → Problem
+unfoldable pub problemOf : Plan → Term → Problem
 problemOf p w =
     record {
       duration = λ i. activityAt p i .duration;
@@ -65,7 +65,7 @@ problemOf p w =
       preds = λ j. setOf most (λ i. precedes w i j);
     }
 
-pub presentOf : Term → ℕ
+unfoldable pub presentOf : Term → ℕ
 presentOf w = setOf most (λ i. member i (activities w))
 
 pub posed : (p : Plan) (t : Term) (v : ℕ) → Chosen p t v → Poses p (variantAt t v) (problemOf p (variantAt t v)) (presentOf (variantAt t v))

@@ -1,0 +1,219 @@
+// The search for the active schedules, variant by variant: recursive, sets of activities as masks, arrays stored to and
+// restored.
+#include "peer.h"
+
+#include <string.h>
+
+#include <algorithm>
+
+namespace {
+
+constexpr int kActivities = 24;
+constexpr int kResources = 16;
+constexpr int kNodes = 64;
+constexpr uint16_t kMark = 65535;
+constexpr uint32_t kNever = UINT32_MAX;
+
+struct Plan {
+  uint32_t activities = 0;
+  uint32_t nodes = 0;
+  uint32_t resource[kActivities];
+  uint32_t duration[kActivities];
+  uint8_t letter[kNodes];
+  uint32_t number[kNodes];
+  // Of the term at each node: its variants, and the node behind it.
+  uint32_t variants[kNodes];
+  uint32_t behind[kNodes];
+};
+
+class Reader {
+ public:
+  explicit Reader(const uint8_t *file) : at_(file) {}
+
+  // The next number of the file.
+  uint32_t number() {
+    while (*at_ < '0' || *at_ > '9') at_++;
+    uint32_t n = 0;
+    for (; '0' <= *at_ && *at_ <= '9'; at_++) n = 10 * n + (*at_ - '0');
+    return n;
+  }
+
+  // The letter behind `node=`, on the line that begins behind the last number.
+  uint8_t letter() { return at_[6]; }
+
+ private:
+  const uint8_t *at_;
+};
+
+void count_variants(Plan &plan, uint32_t node) {
+  uint32_t next = node + 1;
+  uint32_t sum = 0, product = 1;
+  if (plan.letter[node] != 'a') {
+    for (uint32_t child = 0; child < plan.number[node]; child++) {
+      count_variants(plan, next);
+      sum += plan.variants[next];
+      product *= plan.variants[next];
+      next = plan.behind[next];
+    }
+  }
+  plan.variants[node] = plan.letter[node] == 'x' ? sum : product;
+  plan.behind[node] = next;
+}
+
+Plan read(const uint8_t *file) {
+  Plan plan;
+  Reader reader(file);
+  reader.number();
+  reader.number();
+  plan.activities = reader.number();
+  for (uint32_t i = 0; i < plan.activities; i++) {
+    plan.resource[i] = reader.number();
+    plan.duration[i] = reader.number();
+  }
+  plan.nodes = reader.number();
+  for (uint32_t n = 0; n < plan.nodes; n++) {
+    plan.letter[n] = reader.letter();
+    plan.number[n] = reader.number();
+  }
+  count_variants(plan, 0);
+  return plan;
+}
+
+// The activities of a variant of the term at a node; the predecessors of each are added to `before`.
+uint32_t choose(const Plan &plan, uint32_t node, uint32_t variant, uint32_t *before) {
+  if (plan.letter[node] == 'a') return 1u << plan.number[node];
+  uint32_t child = node + 1;
+  if (plan.letter[node] == 'x') {
+    for (; variant >= plan.variants[child]; child = plan.behind[child]) variant -= plan.variants[child];
+    return choose(plan, child, variant, before);
+  }
+  uint32_t all = 0;
+  uint32_t later = plan.variants[node];
+  for (uint32_t n = 0; n < plan.number[node]; n++, child = plan.behind[child]) {
+    later /= plan.variants[child];
+    uint32_t chosen = choose(plan, child, variant / later % plan.variants[child], before);
+    if (plan.letter[node] == 's') {
+      for (uint32_t set = chosen; set != 0; set &= set - 1) before[__builtin_ctz(set)] |= all;
+    }
+    all |= chosen;
+  }
+  return all;
+}
+
+class Search {
+ public:
+  Search(const Plan &plan, uint64_t cap) : plan_(plan), cap_(cap) {}
+
+  // Every variant, or false once there are more pairs than the cap. A row for each pair goes to `rows`, if there is one.
+  bool run(uint16_t *rows) {
+    rows_ = rows;
+    count_ = 0;
+    makespan_ = kNever;
+    for (variant_ = 0; variant_ < plan_.variants[0]; variant_++) {
+      memset(before_, 0, sizeof before_);
+      memset(ends_, 0, sizeof ends_);
+      memset(free_, 0, sizeof free_);
+      uint32_t present = choose(plan_, 0, variant_, before_);
+      if (!branch(present, 0)) return false;
+    }
+    return true;
+  }
+
+  uint64_t count() const { return count_; }
+  uint64_t makespan() const { return makespan_; }
+  uint64_t best_variant() const { return best_variant_; }
+
+  void best_starts(uint16_t *starts) const {
+    for (uint32_t i = 0; i < kActivities; i++) starts[i] = start(best_ends_, i);
+  }
+
+ private:
+  // An absent activity has no end.
+  uint16_t start(const uint32_t *ends, uint32_t i) const {
+    return i < plan_.activities && ends[i] != 0 ? ends[i] - plan_.duration[i] : kMark;
+  }
+
+  bool finished(uint32_t latest) {
+    if (count_ == cap_) return false;
+    count_++;
+    if (latest < makespan_) {
+      makespan_ = latest;
+      best_variant_ = variant_;
+      memcpy(best_ends_, ends_, sizeof ends_);
+    }
+    if (rows_ != nullptr) {
+      *rows_++ = variant_;
+      for (uint32_t i = 0; i < plan_.activities; i++) *rows_++ = start(ends_, i);
+    }
+    return true;
+  }
+
+  // Each way to go on from the frozen activities, `left` not being frozen; `latest` is the latest end so far.
+  bool branch(uint32_t left, uint32_t latest) {
+    if (left == 0) return finished(latest);
+    uint32_t earliest[kActivities];
+    uint32_t open = 0;
+    uint32_t key = kNever;
+    for (uint32_t set = left; set != 0; set &= set - 1) {
+      uint32_t i = __builtin_ctz(set);
+      if ((before_[i] & left) != 0) continue;
+      uint32_t start = free_[plan_.resource[i]];
+      for (uint32_t done = before_[i]; done != 0; done &= done - 1) start = std::max(start, ends_[__builtin_ctz(done)]);
+      earliest[i] = start;
+      open |= 1u << i;
+      key = std::min(key, (start + plan_.duration[i]) * kResources + plan_.resource[i]);
+    }
+    uint32_t resource = key % kResources;
+    uint32_t tick = key / kResources;
+    uint32_t free = free_[resource];
+    for (uint32_t set = open; set != 0; set &= set - 1) {
+      uint32_t i = __builtin_ctz(set);
+      if (plan_.resource[i] != resource || earliest[i] >= tick) continue;
+      uint32_t end = earliest[i] + plan_.duration[i];
+      ends_[i] = end;
+      free_[resource] = end;
+      if (!branch(left & ~(1u << i), std::max(latest, end))) return false;
+    }
+    free_[resource] = free;
+    return true;
+  }
+
+  const Plan &plan_;
+  const uint64_t cap_;
+  uint32_t variant_ = 0;
+  uint32_t before_[kActivities];
+  uint32_t ends_[kActivities];
+  uint32_t free_[kResources];
+  uint64_t count_ = 0;
+  uint32_t makespan_ = kNever;
+  uint32_t best_variant_ = 0;
+  uint32_t best_ends_[kActivities];
+  uint16_t *rows_ = nullptr;
+};
+
+void answer(uint64_t *out, uint64_t a, uint64_t b, uint64_t c, uint64_t d) {
+  out[0] = a;
+  out[1] = b;
+  out[2] = c;
+  out[3] = d;
+}
+
+}  // namespace
+
+void peer_best(const uint8_t *file, size_t, uint32_t cap, uint16_t *starts, uint64_t *out) {
+  Plan plan = read(file);
+  Search search(plan, cap);
+  if (!search.run(nullptr)) return answer(out, 7, 0, 0, 0);
+  search.best_starts(starts);
+  answer(out, 0, search.best_variant(), search.makespan(), search.count());
+}
+
+void peer_list(const uint8_t *file, size_t, uint32_t cap, uint16_t *area, size_t area_len, uint64_t *out) {
+  Plan plan = read(file);
+  Search search(plan, cap);
+  if (!search.run(nullptr)) return answer(out, 7, 0, 0, 0);
+  uint64_t cells = search.count() * (plan.activities + 1);
+  if (area_len < cells) return answer(out, 8, cells, 0, 0);
+  search.run(area);
+  answer(out, 0, search.count(), 0, 0);
+}

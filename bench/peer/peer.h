@@ -1,0 +1,18 @@
+/* The planner's enumeration in plain C++, to compare speed with. Each function takes the file of an accepted plan; the
+ * answers are those of the planner's calls of the same names. */
+#ifndef PEER_H
+#define PEER_H
+
+#include <stddef.h>
+#include <stdint.h>
+
+extern "C" {
+
+/* out: 0, variant, makespan, pairs; or 7, 0 where there are more pairs than the cap. */
+void peer_best(const uint8_t *file, size_t file_len, uint32_t cap, uint16_t starts[24], uint64_t out[4]);
+
+/* out: 0, rows; or 7, 0; or 8 and the cells needed. */
+void peer_list(const uint8_t *file, size_t file_len, uint32_t cap, uint16_t *area, size_t area_len, uint64_t out[4]);
+}
+
+#endif

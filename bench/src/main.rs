@@ -1,0 +1,206 @@
+//! Prints the table: the planner's time, a native peer's and a plain enumerator's.
+
+mod peer;
+mod plans;
+
+use planner::{Answer, Planner, MARK};
+use plans::Plan;
+use reference::file::parse;
+use reference::is_session;
+use reference::orders;
+use reference::project::Project;
+
+#[cfg(feature = "linked")]
+const PLANNER: (planner::Linked, &str) = (planner::Linked, "planner");
+
+#[cfg(not(feature = "linked"))]
+const PLANNER: (reference::Reference, &str) = (reference::Reference, "stand-in");
+
+/// The stand-in is slow: it is not timed on more sessions than this.
+fn is_timed(sessions: u64) -> bool {
+    cfg!(feature = "linked") || sessions <= 50_000
+}
+
+/// The enumerator tries every order on every resource: no more combinations than this.
+const MOST_FOR_ENUMERATOR: u64 = 2_000_000;
+
+const CAP: u32 = 1_000_000;
+
+const RUNS: u32 = 15;
+
+extern "C" {
+    fn clock_gettime(clock: i32, time: *mut [i64; 2]) -> i32;
+}
+
+/// The CPU time of this thread, in seconds. The planner's and the peer's calls make no system calls, so theirs is user
+/// time; the kernel's own figure for user time alone is too coarse.
+fn user_time() -> f64 {
+    const CLOCK_THREAD_CPUTIME_ID: i32 = 3;
+    let mut time = [0; 2];
+    unsafe { clock_gettime(CLOCK_THREAD_CPUTIME_ID, &mut time) };
+    time[0] as f64 + time[1] as f64 * 1e-9
+}
+
+/// A call that is timed, and the buffer that it writes into.
+struct Timed<F> {
+    call: F,
+    buffer: Vec<u16>,
+    calls: u32,
+    best: f64,
+}
+
+impl<T, F: Fn(&mut [u16]) -> T> Timed<F> {
+    /// A run is as many calls as take some 20 ms.
+    fn new(length: usize, call: F) -> Self {
+        let mut timed = Timed { call, buffer: vec![0; length], calls: 1, best: f64::INFINITY };
+        timed.run();
+        timed.calls = (0.02 / timed.best).clamp(1.0, 20_000.0) as u32;
+        timed
+    }
+
+    fn run(&mut self) {
+        self.buffer.fill(0);
+        let begin = user_time();
+        for _ in 0..self.calls {
+            std::hint::black_box((self.call)(&mut self.buffer));
+        }
+        self.best = self.best.min((user_time() - begin) / f64::from(self.calls));
+    }
+}
+
+/// The best times of the planner's call, if it is to be timed, and of the peer's, their runs taking turns. Slow calls
+/// have fewer runs.
+fn race<T>(
+    length: usize,
+    planner: Option<impl Fn(&mut [u16]) -> T>,
+    peer: impl Fn(&mut [u16]) -> T,
+) -> (Option<f64>, f64) {
+    let mut planner = planner.map(|call| Timed::new(length, call));
+    let mut peer = Timed::new(length, peer);
+    let begin = user_time();
+    for _ in 0..RUNS {
+        planner.iter_mut().for_each(Timed::run);
+        peer.run();
+        if user_time() - begin > 4.0 {
+            break;
+        }
+    }
+    (planner.map(|timed| timed.best), peer.best)
+}
+
+fn shown(seconds: Option<f64>) -> String {
+    match seconds {
+        None => "-".into(),
+        Some(s) if s < 1e-6 => format!("{:.1} ns", s * 1e9),
+        Some(s) if s < 1e-3 => format!("{:.1} us", s * 1e6),
+        Some(s) if s < 1.0 => format!("{:.2} ms", s * 1e3),
+        Some(s) => format!("{s:.2} s"),
+    }
+}
+
+fn ratio(a: Option<f64>, b: Option<f64>) -> String {
+    match (a, b) {
+        (Some(a), Some(b)) if a < 100.0 * b => format!("{:.2}", a / b),
+        (Some(a), Some(b)) => format!("{:.0}", a / b),
+        _ => "-".into(),
+    }
+}
+
+/// The number of pairs and the shortest makespan, by every order on every resource; none where those are too many.
+fn enumerated(plan: &reference::file::Plan) -> Option<(u64, u64)> {
+    let project = |variant: u64| Project::new(&plan.activities, &plan.term.variant(variant));
+    let variants = 0..plan.term.variant_count();
+    let mut left = MOST_FOR_ENUMERATOR;
+    for variant in variants.clone() {
+        left -= orders::combinations(&project(variant), left)?;
+    }
+    let (mut count, mut shortest) = (0, u64::MAX);
+    for variant in variants {
+        let project = project(variant);
+        for starts in orders::active_schedules(&project) {
+            count += 1;
+            shortest = shortest.min(project.makespan(&starts));
+        }
+    }
+    Some((count, shortest))
+}
+
+fn best_table(title: &str, plans: &[Plan]) {
+    let (planner, name) = PLANNER;
+    println!("\n{title}\n");
+    print!("{:<24} {:>4} {:>4} {:>9} {:>8}", "plan", "acts", "V", "sessions", "shortest");
+    print!("  {name:>9} {:>9} {:>9} {:>9}", "each", "peer", "each");
+    println!(" {:>8}  {:>10} {:>8}", "ratio", "enumerator", "ratio");
+    for Plan { name, file } in plans {
+        let plan = parse(file).unwrap();
+        let mut starts = [MARK; 24];
+        let found = peer::best(file, CAP, &mut starts);
+        let sessions = found.map_or(u64::from(CAP) + 1, |best| best.count);
+        let by_planner = |starts: &mut [u16]| planner.best(file, CAP, starts.try_into().unwrap());
+        let by_peer = |starts: &mut [u16]| peer::best(file, CAP, starts.try_into().unwrap());
+        if is_timed(sessions) {
+            let answer = by_planner(&mut starts);
+            assert_eq!(answer.map(|a| (a.makespan, a.count)), found.map(|f| (f.makespan, f.count)), "{name}");
+            let is_session = |v| is_session(&plan.activities, &plan.term.variant(v), &starts);
+            assert!(answer.map_or(true, |best| is_session(best.variant)), "{name}");
+        }
+        let (time, peer_time) = race(24, is_timed(sessions).then_some(by_planner), by_peer);
+        let begin = user_time();
+        let enumerator_time = enumerated(&plan).map(|(count, shortest)| {
+            assert_eq!(found.map(|best| (best.count, best.makespan)), Ok((count, shortest)), "{name}");
+            user_time() - begin
+        });
+        let (count, shortest) = match found {
+            Ok(best) => (best.count.to_string(), best.makespan.to_string()),
+            Err(_) => (format!("> {CAP}"), "-".into()),
+        };
+        let each = |time: Option<f64>| shown(time.map(|time| time / sessions as f64));
+        let (activities, variants) = (plan.activities.len(), plan.term.variant_count());
+        print!("{name:<24} {activities:>4} {variants:>4} {count:>9} {shortest:>8}");
+        print!("  {:>9} {:>9} {:>9} {:>9}", shown(time), each(time), shown(Some(peer_time)), each(Some(peer_time)));
+        print!(" {:>8}", ratio(time, Some(peer_time)));
+        println!("  {:>10} {:>8}", shown(enumerator_time), ratio(enumerator_time, time));
+    }
+}
+
+fn list_table(title: &str, plans: &[Plan]) {
+    let (planner, name) = PLANNER;
+    println!("\n{title}\n");
+    println!("{:<24} {:>9} {:>9}  {name:>9} {:>9} {:>8}", "plan", "rows", "cells", "peer", "ratio");
+    for Plan { name, file } in plans {
+        let Ok(best) = peer::best(file, CAP, &mut [0; 24]) else {
+            continue;
+        };
+        let width = parse(file).unwrap().activities.len() + 1;
+        let cells = best.count as usize * width;
+        let by_planner = |area: &mut [u16]| planner.list(file, CAP, area);
+        let by_peer = |area: &mut [u16]| peer::list(file, CAP, area);
+        let rows = |list: &dyn Fn(&mut [u16]) -> Answer<u64>| {
+            let mut area = vec![0; cells];
+            assert_eq!(list(&mut area), Ok(best.count), "{name}");
+            let mut rows: Vec<Vec<u16>> = area.chunks(width).map(<[u16]>::to_vec).collect();
+            rows.sort();
+            rows
+        };
+        if is_timed(best.count) {
+            assert!(rows(&by_planner) == rows(&by_peer), "{name}: the rows differ");
+        }
+        let (time, peer_time) = race(cells, is_timed(best.count).then_some(by_planner), by_peer);
+        print!("{name:<24} {:>9} {cells:>9}", best.count);
+        println!("  {:>9} {:>9} {:>8}", shown(time), shown(Some(peer_time)), ratio(time, Some(peer_time)));
+    }
+}
+
+fn main() {
+    println!("User time of one call, the best of {RUNS} runs; every buffer is cleared before a run.");
+    println!("Cap {CAP}. Each: the time divided by the number of sessions.");
+    println!("Ratios: planner to peer, and enumerator to planner.");
+    if !cfg!(feature = "linked") {
+        println!("The planner's library is not linked: the reference stands in for it.");
+    }
+    let plans = plans::main_plans();
+    best_table("BEST", &plans);
+    list_table("LIST", &plans);
+    best_table("BEST against the number of sessions", &plans::by_sessions());
+    best_table("BEST against the number of activities", &plans::by_activities());
+}

@@ -1,0 +1,29 @@
+//! The native peer (peer/peer.h).
+
+use planner::{Answer, Best, Refusal, Timetable};
+
+extern "C" {
+    fn peer_best(file: *const u8, file_len: usize, cap: u32, starts: *mut Timetable, out: *mut [u64; 4]);
+    fn peer_list(file: *const u8, file_len: usize, cap: u32, area: *mut u16, area_len: usize, out: *mut [u64; 4]);
+}
+
+fn answer(out: [u64; 4]) -> Answer<[u64; 3]> {
+    match out {
+        [0, a, b, c] => Ok([a, b, c]),
+        [number, figure, ..] => Err(Refusal { number, figure }),
+    }
+}
+
+/// Of an accepted plan's file.
+pub fn best(file: &[u8], cap: u32, starts: &mut Timetable) -> Answer<Best> {
+    let mut out = [0; 4];
+    unsafe { peer_best(file.as_ptr(), file.len(), cap, starts, &mut out) };
+    answer(out).map(|[variant, makespan, count]| Best { variant, makespan, count })
+}
+
+/// Of an accepted plan's file.
+pub fn list(file: &[u8], cap: u32, area: &mut [u16]) -> Answer<u64> {
+    let mut out = [0; 4];
+    unsafe { peer_list(file.as_ptr(), file.len(), cap, area.as_mut_ptr(), area.len(), &mut out) };
+    answer(out).map(|[rows, ..]| rows)
+}

@@ -1,0 +1,120 @@
+//! The plans that are timed.
+
+pub struct Plan {
+    pub name: String,
+    pub file: Vec<u8>,
+}
+
+fn plan(name: &str, activities: &[(usize, u64)], nodes: &str) -> Plan {
+    let resources = activities.iter().map(|a| a.0).max().unwrap() + 1;
+    let mut text = format!("plan=1\nres={resources}\nacts={}\n", activities.len());
+    for (resource, duration) in activities {
+        text += &format!("act={resource},{duration}\n");
+    }
+    text += &format!("nodes={}\n", nodes.split_whitespace().count());
+    for node in nodes.split_whitespace() {
+        text += &format!("node={node}\n");
+    }
+    Plan { name: name.to_string(), file: text.into_bytes() }
+}
+
+/// Some duration, a different one for each activity.
+fn duration(i: usize) -> u64 {
+    1 + (i as u64 * 37 + 11) % 61
+}
+
+/// Activities side by side, so many on each resource.
+fn side_by_side(sizes: &[usize]) -> (Vec<(usize, u64)>, String) {
+    let resources = sizes.iter().enumerate().flat_map(|(resource, &size)| vec![resource; size]);
+    let activities: Vec<(usize, u64)> = resources.enumerate().map(|(i, resource)| (resource, duration(i))).collect();
+    let leaves: String = (0..activities.len()).map(|i| format!(" a,{i}")).collect();
+    let nodes = format!("p,{}{leaves}", activities.len());
+    (activities, nodes)
+}
+
+fn flat(sizes: &[usize]) -> Plan {
+    let (activities, nodes) = side_by_side(sizes);
+    let sizes: Vec<String> = sizes.iter().map(usize::to_string).collect();
+    plan(&format!("p of {} on {}", sizes.join("+"), sizes.len()), &activities, &nodes)
+}
+
+/// Jobs side by side, each a sequence of activities on the resources that `resource` gives for a job and a step.
+fn shop(name: &str, jobs: usize, steps: usize, resource: impl Fn(usize, usize) -> usize) -> Plan {
+    let mut activities = vec![];
+    let mut nodes = format!("p,{jobs}");
+    for job in 0..jobs {
+        nodes += &format!(" s,{steps}");
+        for step in 0..steps {
+            nodes += &format!(" a,{}", activities.len());
+            activities.push((resource(job, step), duration(activities.len())));
+        }
+    }
+    plan(&format!("{name} {jobs} x {steps}"), &activities, &nodes)
+}
+
+fn flow_shop(jobs: usize, steps: usize) -> Plan {
+    shop("flow shop", jobs, steps, |_, step| step)
+}
+
+/// Every other job goes the other way round.
+fn job_shop(jobs: usize, steps: usize) -> Plan {
+    shop("job shop", jobs, steps, |job, step| (job + if job % 2 == 0 { step } else { steps - 1 - step }) % steps)
+}
+
+/// Jobs that begin with a choice between two resources.
+fn shop_with_choices(jobs: usize, steps: usize) -> Plan {
+    let mut activities = vec![];
+    let mut nodes = format!("p,{jobs}");
+    for job in 0..jobs {
+        nodes += &format!(" s,{steps} x,2");
+        for place in 0..=steps {
+            nodes += &format!(" a,{}", activities.len());
+            activities.push(((job + place) % steps, duration(activities.len())));
+        }
+    }
+    plan(&format!("shop {jobs} x {steps} with choices"), &activities, &nodes)
+}
+
+/// A p over twelve x of two: 4096 variants.
+fn twelve_choices() -> Plan {
+    let activities: Vec<(usize, u64)> = (0..24).map(|i| (i / 4, duration(i))).collect();
+    let choices: String = (0..12).map(|i| format!(" x,2 a,{} a,{}", 2 * i, 2 * i + 1)).collect();
+    plan("p of 12 x of 2", &activities, &format!("p,12{choices}"))
+}
+
+pub fn main_plans() -> Vec<Plan> {
+    vec![
+        job_shop(5, 3),
+        shop_with_choices(4, 3),
+        flat(&[7]),
+        flow_shop(5, 3),
+        job_shop(6, 3),
+        flow_shop(5, 4),
+        job_shop(6, 4),
+        twelve_choices(),
+        flat(&[9]),
+        flow_shop(6, 3),
+        flat(&[8, 4]),
+        flow_shop(6, 4),
+    ]
+}
+
+/// Twelve activities side by side, the sessions more and more.
+pub fn by_sessions() -> Vec<Plan> {
+    let sizes: [&[usize]; 6] = [&[4, 3, 3, 2], &[4, 4, 4], &[6, 4, 2], &[7, 4, 1], &[6, 6], &[8, 4]];
+    sizes.map(flat).into()
+}
+
+/// Eight activities side by side on one resource, and then a sequence: 40320 sessions, the activities more and more.
+pub fn by_activities() -> Vec<Plan> {
+    let with_tail = |tail: usize| {
+        let (mut activities, mut nodes) = side_by_side(&[8]);
+        nodes = format!("s,{} {nodes}", tail + 1);
+        for i in 8..8 + tail {
+            activities.push((1 + i % 3, duration(i)));
+            nodes += &format!(" a,{i}");
+        }
+        plan(&format!("p of 8, then {tail}"), &activities, &nodes)
+    };
+    [0, 4, 8, 12, 16].map(with_tail).into()
+}

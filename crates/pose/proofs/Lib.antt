@@ -1,0 +1,2 @@
+-- One variant of an accepted plan: laws free of the code.
+pub mod Posing

@@ -1,0 +1,2 @@
+-- What one variant of an accepted plan is posed from.
+pub mod Posable

@@ -1,0 +1,52 @@
+//! The six calls of the planner, and what they answer.
+
+/// A timetable has a place for each of 24 activity numbers.
+pub const PLACES: usize = 24;
+
+/// What stands in a timetable at an absent activity.
+pub const MARK: u16 = 65535;
+
+pub type Timetable = [u16; PLACES];
+
+/// Number and figure of a refusal.
+#[derive(Clone, Copy, Debug, PartialEq, Eq)]
+pub struct Refusal {
+    pub number: u64,
+    pub figure: u64,
+}
+
+pub type Answer<T> = Result<T, Refusal>;
+
+#[derive(Clone, Copy, Debug, PartialEq, Eq)]
+pub struct Size {
+    pub activities: u64,
+    pub nodes: u64,
+    pub variants: u64,
+}
+
+#[derive(Clone, Copy, Debug, PartialEq, Eq)]
+pub struct Best {
+    pub variant: u64,
+    pub makespan: u64,
+    pub count: u64,
+}
+
+/// Each call takes the bytes of a plan file. A refusal leaves every area as it was.
+pub trait Planner {
+    fn read(&self, file: &[u8]) -> Answer<Size>;
+
+    /// Writes the variant at the front of the area; answers the number of bytes.
+    fn write(&self, file: &[u8], variant: u64, area: &mut [u8]) -> Answer<u64>;
+
+    /// Is the timetable a feasible schedule of the variant?
+    fn check(&self, file: &[u8], variant: u64, starts: &Timetable) -> Answer<bool>;
+
+    /// The number of pairs of a variant and an active schedule of it.
+    fn count(&self, file: &[u8], cap: u32) -> Answer<u64>;
+
+    /// Writes the rows at the front of the area, a variant and then a start for each activity; answers their number.
+    fn list(&self, file: &[u8], cap: u32, area: &mut [u16]) -> Answer<u64>;
+
+    /// Writes a shortest schedule into `starts`.
+    fn best(&self, file: &[u8], cap: u32, starts: &mut Timetable) -> Answer<Best>;
+}

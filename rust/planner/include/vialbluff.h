@@ -1,0 +1,60 @@
+/* The session planner's calls, for C. Link target/staticlib/libvialbluff.a.
+ *
+ * Every call takes the bytes of a plan file and fills `out`:
+ *   success:  out[0] = 0, then the values named at the call, the rest 0
+ *   refusal:  out[0] = its number, out[1] = its figure, the rest 0
+ *
+ *   number  figure              condition
+ *   1       0                   length 0 or over 959
+ *   2       line, from 1        line absent, ill formed, or bytes past the last line
+ *   3       line                a value out of range
+ *   4       0                   the nodes are not one whole term
+ *   5       0                   some variant has an activity twice
+ *   6       0                   more than 4096 variants
+ *   9       0                   no such variant
+ *   7       0                   more pairs than the cap
+ *   8       cells or bytes      area too short
+ *
+ * A refusal changes no area. Success changes only what is named at the call. A timetable has a start for each of 24
+ * activity numbers, and VIALBLUFF_ABSENT at an absent one. No call keeps a pointer; areas do not overlap.
+ */
+#ifndef VIALBLUFF_H
+#define VIALBLUFF_H
+
+#include <stddef.h>
+#include <stdint.h>
+
+#define VIALBLUFF_PLACES 24
+#define VIALBLUFF_ABSENT 65535
+
+#ifdef __cplusplus
+extern "C" {
+#endif
+
+/* out[1] activities, out[2] nodes, out[3] variants. */
+void vialbluff_read(const uint8_t *file, size_t file_len, uint64_t out[4]);
+
+/* Writes the variant as a plan file at the front of the area; out[1] its bytes. */
+void vialbluff_write(const uint8_t *file, size_t file_len, uint64_t variant,
+                     uint8_t *area, size_t area_len, uint64_t out[4]);
+
+/* out[1] 1 if the timetable is a feasible schedule of the variant, else 0. */
+void vialbluff_check(const uint8_t *file, size_t file_len, uint64_t variant,
+                     const uint16_t starts[VIALBLUFF_PLACES], uint64_t out[4]);
+
+/* out[1] the number of pairs of a variant and an active schedule of it. */
+void vialbluff_count(const uint8_t *file, size_t file_len, uint32_t cap, uint64_t out[4]);
+
+/* Writes a row for each pair at the front of the area: the variant and then a start for each activity; out[1] the rows. */
+void vialbluff_list(const uint8_t *file, size_t file_len, uint32_t cap,
+                    uint16_t *area, size_t area_len, uint64_t out[4]);
+
+/* Writes a shortest schedule into `starts`; out[1] its variant, out[2] its makespan, out[3] the number of pairs. */
+void vialbluff_best(const uint8_t *file, size_t file_len, uint32_t cap,
+                    uint16_t starts[VIALBLUFF_PLACES], uint64_t out[4]);
+
+#ifdef __cplusplus
+}
+#endif
+
+#endif

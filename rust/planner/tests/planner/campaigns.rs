@@ -1,0 +1,121 @@
+//! The worked campaigns of the paper.
+
+use calls::{Answer, Best, Planner, Size, MARK};
+use reference::file::parse;
+use reference::{makespan_of, refusal};
+
+/// The bytes of a text whose lines are shown with `/`.
+fn file(text: &str) -> Vec<u8> {
+    (text.replace('/', "\n") + "\n").into_bytes()
+}
+
+const DOT_TEST: &str = "plan=1/res=3/acts=5/act=0,4/act=1,2/act=1,3/act=2,5/act=1,6/nodes=9/node=s,2/node=x,2\
+    /node=a,0/node=p,2/node=a,1/node=a,2/node=p,2/node=a,3/node=a,4";
+
+fn variants(text: &str) -> Answer<u64> {
+    crate::planner().read(&file(text)).map(|size| size.variants)
+}
+
+fn best(text: &str, cap: u32) -> Answer<(Best, [u16; 24])> {
+    let mut starts = [7; 24];
+    let best = crate::planner().best(&file(text), cap, &mut starts)?;
+    Ok((best, starts))
+}
+
+/// The makespans of the rows that LIST gives, rising.
+fn makespans(text: &str) -> Vec<u64> {
+    let (planner, file) = (crate::planner(), file(text));
+    let plan = parse(&file).unwrap();
+    let count = planner.count(&file, u32::MAX).unwrap();
+    let width = plan.activities.len() + 1;
+    let mut area = vec![0; count as usize * width];
+    assert_eq!(planner.list(&file, u32::MAX, &mut area), Ok(count));
+    let mut makespans: Vec<u64> = area.chunks(width).map(|row| makespan_of(&plan, row)).collect();
+    makespans.sort();
+    makespans
+}
+
+#[test]
+fn dot_test() {
+    let size = Size { activities: 5, nodes: 9, variants: 2 };
+    assert_eq!(crate::planner().read(&file(DOT_TEST)), Ok(size));
+    let (found, starts) = best(DOT_TEST, 1_000_000).unwrap();
+    assert_eq!(found, Best { variant: 0, makespan: 10, count: 3 });
+    assert_eq!(starts[..5], [0, MARK, MARK, 4, 4]);
+    assert_eq!(starts[5..], [MARK; 19]);
+}
+
+#[test]
+fn dot_test_variant_1() {
+    let (planner, plan) = (crate::planner(), file(DOT_TEST));
+    let mut area = [0; 959];
+    let length = planner.write(&plan, 1, &mut area).unwrap() as usize;
+    let text = std::str::from_utf8(&area[..length]).unwrap().trim_end().replace('\n', "/");
+    assert_eq!(makespans(&text), [11, 11]);
+}
+
+#[test]
+fn dot_test_cap_and_area() {
+    let (planner, plan) = (crate::planner(), file(DOT_TEST));
+    assert_eq!(planner.count(&plan, 3), Ok(3));
+    for cap in [0, 2] {
+        assert_eq!(planner.count(&plan, cap), Err(refusal(7, 0)));
+        assert_eq!(planner.list(&plan, cap, &mut [0; 18]), Err(refusal(7, 0)));
+        assert_eq!(best(DOT_TEST, cap), Err(refusal(7, 0)));
+    }
+    assert_eq!(planner.list(&plan, 3, &mut [0; 18]), Ok(3));
+    assert_eq!(planner.list(&plan, 3, &mut [0; 17]), Err(refusal(8, 18)));
+}
+
+#[test]
+fn durations() {
+    let of = |act: &str| variants(&format!("plan=1/res=1/acts=1/act={act}/nodes=1/node=a,0"));
+    assert_eq!(of("0,2000"), Ok(1));
+    assert_eq!(of("0,2001"), Err(refusal(3, 4)));
+    assert_eq!(of("0,0"), Err(refusal(3, 4)));
+    assert_eq!(of("0,04"), Err(refusal(2, 4)));
+}
+
+#[test]
+fn activity_0_twice() {
+    let x = "plan=1/res=1/acts=1/act=0,1/nodes=3/node=x,2/node=a,0/node=a,0";
+    assert_eq!(variants(x), Ok(2));
+    assert_eq!(crate::planner().count(&file(x), 2), Ok(2));
+    assert_eq!(variants(&x.replace('x', "p")), Err(refusal(5, 0)));
+}
+
+#[test]
+fn twelve_choices_of_two() {
+    let acts = "/act=0,1".repeat(24);
+    let choice = |i: u64| format!("/node=x,2/node=a,{}/node=a,{}", 2 * i, 2 * i + 1);
+    let choices: String = (1..12).map(choice).collect();
+    let front = format!("plan=1/res=1/acts=24{acts}");
+    assert_eq!(variants(&format!("{front}/nodes=37/node=p,12{}{choices}", choice(0))), Ok(4096));
+    let again = "/node=x,3/node=a,0/node=a,1/node=a,0";
+    assert_eq!(variants(&format!("{front}/nodes=38/node=p,12{again}{choices}")), Err(refusal(6, 0)));
+}
+
+#[test]
+fn two_contested_resources() {
+    let text =
+        "plan=1/res=2/acts=4/act=0,1/act=0,1/act=1,1/act=1,1/nodes=5/node=p,4/node=a,0/node=a,1/node=a,2/node=a,3";
+    assert_eq!(makespans(text), [2; 4]);
+}
+
+#[test]
+fn a_free_resource_waits() {
+    let text = "plan=1/res=2/acts=4/act=0,10/act=1,1/act=0,1/act=1,20/nodes=6/node=p,2/node=a,0/node=s,3/node=a,1\
+        /node=a,2/node=a,3";
+    assert_eq!(makespans(text), [22, 31]);
+    assert_eq!(best(text, 2).unwrap().0.makespan, 22);
+}
+
+/// Document 000, Example 2.
+#[test]
+fn example_2() {
+    let second =
+        "plan=1/res=4/acts=8/act=0,1/act=1,2/act=2,2/act=1,1/act=0,1/act=0,2/act=3,1/act=1,2/nodes=13/node=p,4\
+        /node=s,2/node=p,2/node=a,0/node=a,1/node=a,2/node=s,2/node=a,3/node=a,4/node=a,5/node=s,2/node=a,6/node=a,7";
+    assert_eq!(makespans(second), [5, 5, 5, 5, 5, 6, 6, 6, 7, 7, 7, 7]);
+    assert_eq!(best(second, 12).unwrap().0.makespan, 5);
+}

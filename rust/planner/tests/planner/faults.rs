@@ -1,0 +1,250 @@
+//! Planners that are wrong in one way: the harness finds each of them out.
+
+use crate::compare::compare;
+use crate::plans::plan_file;
+use calls::{Answer, Best, Planner, Refusal, Size, Timetable, MARK};
+use reference::file::{parse, Plan};
+use reference::orders::each_earliest;
+use reference::project::Project;
+use reference::random::Random;
+use reference::rows::row_of;
+use reference::{makespan_of, refusal, Reference};
+
+#[derive(Clone, Copy, Debug, PartialEq)]
+enum Fault {
+    None,
+    ReadRefusesAll,
+    ReadTakesMissingNewline,
+    ReadTakesLeadingZero,
+    FigureOffByOne,
+    VariantsReversed,
+    WriteKeepsNested,
+    WriteTouchesPastTheEnd,
+    WriteTouchesOnRefusal,
+    CheckForgetsResources,
+    CheckForgetsMarks,
+    CheckWantsActive,
+    CountInvented,
+    RefusesCapUnseen,
+    ListWritesNothing,
+    ListRepeatsARow,
+    ListTouchesPastTheEnd,
+    FirstVariantForAll,
+    NothingWaits,
+    SlidesOnly,
+    BestOfFirstVariant,
+    BestByLongestChain,
+    BestLeavesMarks,
+}
+
+struct Faulty(Fault);
+
+impl Faulty {
+    fn has(&self, fault: Fault) -> bool {
+        self.0 == fault
+    }
+
+    /// The rows of the plan with the fault in them.
+    fn rows(&self, file: &[u8], cap: u32) -> Answer<(Plan, Vec<Vec<u16>>)> {
+        let count = Reference.count(file, cap)?;
+        let plan = parse(file).unwrap();
+        let width = plan.activities.len() + 1;
+        let mut area = vec![0; count as usize * width];
+        Reference.list(file, cap, &mut area)?;
+        let mut rows: Vec<Vec<u16>> = area.chunks(width).map(<[u16]>::to_vec).collect();
+        if self.has(Fault::FirstVariantForAll) {
+            let first: Vec<_> = rows.iter().filter(|row| row[0] == 0).cloned().collect();
+            rows.iter_mut().enumerate().for_each(|(i, row)| row[1..].copy_from_slice(&first[i % first.len()][1..]));
+        }
+        if self.has(Fault::ListRepeatsARow) && rows.len() > 1 {
+            rows[0] = rows[1].clone();
+        }
+        if self.has(Fault::NothingWaits) {
+            rows.retain(|row| !waits(&plan, row));
+        }
+        if self.has(Fault::SlidesOnly) {
+            rows = earliest_rows(&plan);
+        }
+        Ok((plan, rows))
+    }
+
+    fn variant(&self, plan: &Plan, variant: u64) -> u64 {
+        let count = plan.term.variant_count();
+        if self.has(Fault::VariantsReversed) && variant < count {
+            count - 1 - variant
+        } else {
+            variant
+        }
+    }
+}
+
+/// Does an activity wait although its predecessors are done and its resource is free on a tick before its start?
+fn waits(plan: &Plan, row: &[u16]) -> bool {
+    let project = Project::new(&plan.activities, &plan.term.variant(u64::from(row[0])));
+    let starts: Vec<u64> = project.numbers.iter().map(|&i| u64::from(row[i + 1])).collect();
+    let all = || 0..project.size();
+    all().any(|j| {
+        let ready = all().filter(|&i| project.before[i][j]).map(|i| project.end(&starts, i)).max().unwrap_or(0);
+        let busy = |t: u64| {
+            all().any(|i| project.resource[i] == project.resource[j] && starts[i] <= t && t < project.end(&starts, i))
+        };
+        (ready..starts[j]).any(|t| !busy(t))
+    })
+}
+
+/// A row for each schedule in which no activity can slide, though one may fit into an earlier gap.
+fn earliest_rows(plan: &Plan) -> Vec<Vec<u16>> {
+    let mut rows = vec![];
+    for variant in 0..plan.term.variant_count() {
+        let project = Project::new(&plan.activities, &plan.term.variant(variant));
+        each_earliest(&project, &mut |starts| rows.push(row_of(plan, variant, &project, &starts)));
+    }
+    rows
+}
+
+impl Planner for Faulty {
+    fn read(&self, file: &[u8]) -> Answer<Size> {
+        if self.has(Fault::ReadRefusesAll) {
+            return Err(refusal(2, 1));
+        }
+        if self.has(Fault::ReadTakesMissingNewline) && file.last() != Some(&10) {
+            return Reference.read(&[file, b"\n"].concat());
+        }
+        if self.has(Fault::ReadTakesLeadingZero) {
+            let text = String::from_utf8_lossy(file).replace(",0", ",").replace(",\n", ",0\n").replace(",,", ",0,");
+            return Reference.read(file).or(Reference.read(text.as_bytes()).or(Reference.read(file)));
+        }
+        Reference.read(file).map_err(|refused| Refusal {
+            figure: refused.figure - u64::from(self.has(Fault::FigureOffByOne) && refused.figure > 4),
+            ..refused
+        })
+    }
+
+    fn write(&self, file: &[u8], variant: u64, area: &mut [u8]) -> Answer<u64> {
+        let plan = parse(file)?;
+        if self.has(Fault::WriteKeepsNested) && variant < plan.term.variant_count() {
+            let text = reference::file::text(plan.resources, &plan.activities, &plan.term.variant(variant));
+            if area.len() < text.len() {
+                return Err(refusal(8, text.len() as u64));
+            }
+            area[..text.len()].copy_from_slice(&text);
+            return Ok(text.len() as u64);
+        }
+        let answer = Reference.write(file, self.variant(&plan, variant), area);
+        match answer {
+            Ok(length) if self.has(Fault::WriteTouchesPastTheEnd) && length < area.len() as u64 => {
+                area[length as usize] = 0;
+            }
+            Err(_) if self.has(Fault::WriteTouchesOnRefusal) && !area.is_empty() => area[0] = b'p',
+            _ => {}
+        }
+        answer
+    }
+
+    fn check(&self, file: &[u8], variant: u64, starts: &Timetable) -> Answer<bool> {
+        let plan = parse(file)?;
+        let mut starts = *starts;
+        if self.has(Fault::CheckForgetsMarks) {
+            if let Ok(chosen) = plan.variant(variant) {
+                let absent = |i: &usize| !chosen.leaves().iter().any(|leaf| leaf.activity == *i);
+                (0..24).filter(absent).for_each(|i| starts[i] = MARK);
+            }
+        }
+        let yes = Reference.check(file, variant, &starts)?;
+        let project = Project::new(&plan.activities, &plan.variant(variant)?);
+        let present: Vec<u64> = project.numbers.iter().map(|&i| u64::from(starts[i])).collect();
+        if self.has(Fault::CheckWantsActive) && yes {
+            return Ok(project.is_settled(&present));
+        }
+        if self.has(Fault::CheckForgetsResources) && starts.iter().filter(|&&s| s != MARK).count() == project.size() {
+            let in_order = |i: usize, j: usize| !project.before[i][j] || project.end(&present, i) <= present[j];
+            let all = 0..project.size();
+            return Ok(all.clone().all(|i| starts[project.numbers[i]] != MARK && all.clone().all(|j| in_order(i, j))));
+        }
+        Ok(yes)
+    }
+
+    fn count(&self, file: &[u8], cap: u32) -> Answer<u64> {
+        let count = self.rows(file, cap)?.1.len() as u64;
+        match self.0 {
+            Fault::CountInvented => Ok(count + 1),
+            Fault::RefusesCapUnseen if cap < 1000 => Err(refusal(7, 0)),
+            _ => Ok(count),
+        }
+    }
+
+    fn list(&self, file: &[u8], cap: u32, area: &mut [u16]) -> Answer<u64> {
+        let (_, rows) = self.rows(file, cap)?;
+        let cells = rows.concat();
+        if area.len() < cells.len() {
+            return Err(refusal(8, cells.len() as u64));
+        }
+        if !self.has(Fault::ListWritesNothing) {
+            area[..cells.len()].copy_from_slice(&cells);
+        }
+        if self.has(Fault::ListTouchesPastTheEnd) && cells.len() < area.len() {
+            area[cells.len()] = 0;
+        }
+        Ok(rows.len() as u64)
+    }
+
+    fn best(&self, file: &[u8], cap: u32, starts: &mut Timetable) -> Answer<Best> {
+        let (plan, rows) = self.rows(file, cap)?;
+        let chain = |row: &[u16]| {
+            let project = Project::new(&plan.activities, &plan.term.variant(u64::from(row[0])));
+            project.longest_chain()
+        };
+        let key = |row: &&Vec<u16>| match self.0 {
+            Fault::BestOfFirstVariant => (u64::from(row[0]), makespan_of(&plan, row)),
+            Fault::BestByLongestChain => (chain(row), makespan_of(&plan, row)),
+            _ => (makespan_of(&plan, row), 0),
+        };
+        let row = rows.iter().min_by_key(key).ok_or(refusal(7, 0))?;
+        if !self.has(Fault::BestLeavesMarks) {
+            starts.fill(MARK);
+        }
+        starts[..row.len() - 1].copy_from_slice(&row[1..]);
+        Ok(Best { variant: u64::from(row[0]), makespan: makespan_of(&plan, row), count: rows.len() as u64 })
+    }
+}
+
+/// The number of the first plan on which the harness finds a difference.
+fn found_out(fault: Fault) -> Option<u64> {
+    let planner = Faulty(fault);
+    (0..3000).find(|&number| {
+        let mut random = Random(number);
+        let (_, file) = plan_file(&mut random);
+        compare(&planner, &file, &mut random).is_err()
+    })
+}
+
+#[test]
+fn each_fault_is_found_out() {
+    assert_eq!(found_out(Fault::None), None);
+    for fault in [
+        Fault::ReadRefusesAll,
+        Fault::ReadTakesMissingNewline,
+        Fault::ReadTakesLeadingZero,
+        Fault::FigureOffByOne,
+        Fault::VariantsReversed,
+        Fault::WriteKeepsNested,
+        Fault::WriteTouchesPastTheEnd,
+        Fault::WriteTouchesOnRefusal,
+        Fault::CheckForgetsResources,
+        Fault::CheckForgetsMarks,
+        Fault::CheckWantsActive,
+        Fault::CountInvented,
+        Fault::RefusesCapUnseen,
+        Fault::ListWritesNothing,
+        Fault::ListRepeatsARow,
+        Fault::ListTouchesPastTheEnd,
+        Fault::FirstVariantForAll,
+        Fault::NothingWaits,
+        Fault::SlidesOnly,
+        Fault::BestOfFirstVariant,
+        Fault::BestByLongestChain,
+        Fault::BestLeavesMarks,
+    ] {
+        assert!(found_out(fault).is_some(), "{fault:?} was not found out");
+    }
+}

@@ -1,0 +1,381 @@
+//! Plan files of every kind, accepted and damaged.
+
+use reference::random::Random;
+
+type Node = (char, u64);
+
+/// The values of a plan file, whether or not they make a plan.
+#[derive(Clone)]
+struct Draft {
+    resources: u64,
+    activities: Vec<(u64, u64)>,
+    nodes: Vec<Node>,
+}
+
+impl Draft {
+    fn text(&self) -> Vec<u8> {
+        let mut text = format!("plan=1\nres={}\nacts={}\n", self.resources, self.activities.len());
+        for (resource, duration) in &self.activities {
+            text += &format!("act={resource},{duration}\n");
+        }
+        text += &format!("nodes={}\n", self.nodes.len());
+        for (letter, number) in &self.nodes {
+            text += &format!("node={letter},{number}\n");
+        }
+        text.into_bytes()
+    }
+}
+
+/// A plan file and the name of its kind.
+pub fn plan_file(random: &mut Random) -> (&'static str, Vec<u8>) {
+    let (kind, text) = match random.below(100) {
+        0..=29 => ("tiny", tiny(random).text()),
+        30..=49 => ("middling", middling(random).text()),
+        50..=59 => ("large", large(random).text()),
+        60..=63 => ("groups of one", nested(random).text()),
+        64..=65 => ("many variants", many_variants(random).text()),
+        66..=69 => ("too many variants", too_many_variants(random).text()),
+        70..=73 => ("longest", longest(random)),
+        74..=79 => ("activity twice", twice(random).text()),
+        80..=86 => ("loose nodes", loose_nodes(random).text()),
+        87..=92 => ("values out of range", out_of_range(random)),
+        93..=95 => ("any lines", any_lines(random)),
+        _ => ("any bytes", any_bytes(random)),
+    };
+    if random.once_in(4) {
+        ("damaged", damaged(random, text))
+    } else {
+        (kind, text)
+    }
+}
+
+fn activities(random: &mut Random, count: u64, resources: u64, longest: u64) -> Vec<(u64, u64)> {
+    (0..count).map(|_| (random.below(resources), random.between(1, longest))).collect()
+}
+
+fn shuffled(random: &mut Random, count: u64) -> Vec<u64> {
+    let mut numbers: Vec<u64> = (0..count).collect();
+    for i in (1..numbers.len()).rev() {
+        numbers.swap(i, random.below(i as u64 + 1) as usize);
+    }
+    numbers
+}
+
+/// The nodes of a term that has no activity twice in a variant, no more than `room`.
+fn term(random: &mut Random, activities: &[u64], room: u64, letters: &[char]) -> Vec<Node> {
+    if room < 2 || (activities.len() == 1 && !random.once_in(6)) {
+        return vec![('a', random.pick(activities))];
+    }
+    let letter = random.pick(letters);
+    let most = if letter == 'x' { 4 } else { activities.len() as u64 };
+    let children = random.between(1, most.min(room - 1));
+    let mut nodes = vec![(letter, children)];
+    let mut from = 0;
+    for child in 0..children {
+        let room = (room - nodes.len() as u64) / (children - child);
+        let part = if letter == 'x' {
+            let a = random.index(activities.len());
+            &activities[a..=random.between(a as u64, activities.len() as u64 - 1) as usize]
+        } else {
+            let last = activities.len() - (children - child) as usize;
+            let to = if child + 1 == children { last } else { random.between(from as u64, last as u64) as usize };
+            let part = &activities[from..=to];
+            from = to + 1;
+            part
+        };
+        nodes.extend(term(random, part, room, letters));
+    }
+    nodes
+}
+
+fn draft(random: &mut Random, count: u64, resources: u64, longest: u64, room: u64, letters: &[char]) -> Draft {
+    let numbers = shuffled(random, count);
+    Draft {
+        resources,
+        activities: activities(random, count, resources, longest),
+        nodes: term(random, &numbers, room, letters),
+    }
+}
+
+fn tiny(random: &mut Random) -> Draft {
+    let (count, resources, longest) = (random.between(1, 5), random.between(1, 3), random.between(1, 5));
+    draft(random, count, resources, longest, 16, &['s', 'p', 'x'])
+}
+
+fn middling(random: &mut Random) -> Draft {
+    let (count, resources) = (random.between(4, 10), random.between(2, 6));
+    let longest = random.pick(&[2, 5, 20, 100, 2000]);
+    draft(random, count, resources, longest, 40, &['s', 's', 'p', 'p', 'x'])
+}
+
+fn large(random: &mut Random) -> Draft {
+    let count = random.between(11, 24);
+    let (resources, longest) = (random.between(1, 16), random.pick(&[3, 50, 2000]));
+    draft(random, count, resources, longest, 64, &['s', 's', 's', 'p', 'x'])
+}
+
+/// Groups of one, up to 63 of them, over an activity.
+fn nested(random: &mut Random) -> Draft {
+    let depth = if random.once_in(4) { 63 } else { random.between(1, 62) };
+    let mut draft = draft(random, 1, 2, 2000, 1, &['s']);
+    let groups = (0..depth).map(|_| (random.pick(&['s', 'p', 'x']), 1));
+    draft.nodes = groups.chain([('a', 0)]).collect();
+    draft
+}
+
+/// A p over x of some activities each, no activity under two of them, most x having a resource of their own.
+fn choices(random: &mut Random, sizes: &[(u64, u64)], repeat: bool) -> Draft {
+    let mut nodes = vec![('p', sizes.len() as u64)];
+    let longest = random.pick(&[1, 4, 2000]);
+    let mut activities = activities(random, 24, 16, longest);
+    let mut first = 0;
+    for (own, &(children, distinct)) in sizes.iter().enumerate() {
+        nodes.push(('x', children));
+        for child in 0..children {
+            let of = if repeat { random.below(distinct) } else { child % distinct };
+            nodes.push(('a', first + of));
+        }
+        if !random.once_in(10) {
+            (0..distinct).for_each(|of| activities[(first + of) as usize].0 = own as u64);
+        }
+        first += distinct;
+    }
+    Draft { resources: 16, activities, nodes }
+}
+
+/// Around 4096 variants, or some hundreds.
+fn many_variants(random: &mut Random) -> Draft {
+    match random.below(8) {
+        0 => choices(random, &[(2, 2); 12], false),
+        1 => {
+            // 4097: an activity beside 4096
+            let mut draft = choices(random, &[(2, 2); 12], false);
+            draft.nodes.splice(0..0, [('x', 2), ('a', 3)]);
+            draft
+        }
+        2 => choices(random, &[(4, 2); 6], true),
+        3 => choices(random, &[(8, 5); 4], true),
+        _ => {
+            let sizes: Vec<(u64, u64)> = (0..random.between(2, 5)).map(|_| (random.between(2, 4), 4)).collect();
+            choices(random, &sizes, true)
+        }
+    }
+}
+
+/// More than 4096 variants, up to some millions.
+fn too_many_variants(random: &mut Random) -> Draft {
+    match random.below(5) {
+        0 => {
+            let mut sizes = [(2, 2); 12];
+            sizes[random.below(12) as usize].0 = 3;
+            choices(random, &sizes, false)
+        }
+        1 => choices(random, &[(4, 2); 12], true),
+        2 => choices(random, &[(3, 3); 8], true),
+        3 => choices(random, &[(6, 3); 8], true),
+        _ => choices(random, &[(30, 12); 2], true),
+    }
+}
+
+/// Files of 959 bytes, the longest that can be accepted: every value in two or four digits. Or of 958 or 960.
+fn longest(random: &mut Random) -> Vec<u8> {
+    let mut nodes = vec![];
+    let mut groups = vec![random.between(1, 6)];
+    let mut left = 63;
+    while let Some(spare) = groups.pop() {
+        // an x of ten children or more, and as many more groups below it as can still have ten
+        let below = random.below(spare.min(left / 10));
+        let children = if below == 0 { left } else { random.between(10, left - 10 * below) };
+        nodes.push(('x', children));
+        left -= children;
+        let leaves = if below == 0 { children } else { children - 1 };
+        nodes.extend((0..leaves).map(|_| ('a', random.between(10, 23))));
+        if below > 0 {
+            groups.push(below);
+        }
+    }
+    let activities = (0..24).map(|_| (random.between(10, 15), random.between(1000, 2000))).collect();
+    let mut text = Draft { resources: 16, activities, nodes }.text();
+    match random.below(6) {
+        0 => text.push(random.pick(b"\n0a")),
+        1 => {
+            text.pop();
+        }
+        _ => {}
+    }
+    text
+}
+
+/// One activity node now names another.
+fn twice(random: &mut Random) -> Draft {
+    let mut draft = if random.once_in(2) { tiny(random) } else { middling(random) };
+    let at = random.index(draft.nodes.len());
+    if draft.nodes[at].0 == 'a' {
+        draft.nodes[at].1 = random.below(draft.activities.len() as u64);
+    }
+    draft
+}
+
+/// Nodes that are no term, or one by chance: cut short, left over, or with another count of children.
+fn loose_nodes(random: &mut Random) -> Draft {
+    let mut draft = match random.below(3) {
+        0 => tiny(random),
+        1 => middling(random),
+        _ => nested(random),
+    };
+    let size = draft.nodes.len();
+    let at = random.index(size);
+    match random.below(5) {
+        0 => draft.nodes.truncate(at.max(1)),
+        1 => {
+            let extra = random.between(1, 3);
+            draft.nodes.extend((0..extra).map(|_| ('a', 0)));
+            draft.nodes.truncate(64);
+        }
+        2 if draft.nodes[at].0 != 'a' => draft.nodes[at].1 = random.between(1, 63),
+        3 => draft.nodes[at].0 = random.pick(&['s', 'p', 'x']),
+        _ => {
+            let other = draft.nodes.remove(at);
+            draft.nodes.insert(random.index(size), other);
+        }
+    }
+    for node in &mut draft.nodes {
+        node.1 = if node.0 == 'a' { node.1.min(draft.activities.len() as u64 - 1) } else { node.1.max(1) };
+    }
+    draft
+}
+
+/// One or two values replaced by others at and past their limits.
+fn out_of_range(random: &mut Random) -> Vec<u8> {
+    let mut text = if random.once_in(2) { tiny(random) } else { middling(random) }.text();
+    for _ in 0..random.between(1, 2) {
+        let value = random.pick(&[0, 1, 2, 15, 16, 17, 23, 24, 25, 63, 64, 65, 1999, 2000, 2001, 9999, 10000, 99999]);
+        text = with_value(random, &text, &value.to_string());
+    }
+    text
+}
+
+/// Lines of the right forms in a random order.
+fn any_lines(random: &mut Random) -> Vec<u8> {
+    let mut text = String::new();
+    for _ in 0..random.between(1, 20) {
+        let value = random.pick(&[0, 1, 1, 2, 3, 16, 24, 64]);
+        let other = random.pick(&[0, 1, 2, 63, 2000]);
+        text += &match random.below(6) {
+            0 => format!("plan={value}\n"),
+            1 => format!("res={value}\n"),
+            2 => format!("acts={value}\n"),
+            3 => format!("act={value},{other}\n"),
+            4 => format!("nodes={value}\n"),
+            _ => format!("node={},{other}\n", random.pick(&['a', 's', 'p', 'x', 'b', 'A'])),
+        };
+    }
+    let front = random.pick(&["", "plan=1\n", "plan=1\nres=1\n", "plan=1\nres=1\nacts=1\nact=0,1\n"]);
+    (front.to_string() + &text).into_bytes()
+}
+
+fn any_bytes(random: &mut Random) -> Vec<u8> {
+    let length = random.pick(&[0, 0, 1, 7, 100, 958, 959, 960, 961, 2000]);
+    let from = random.pick(&[&b"plan=1\nres=acts=node=0123456789,aspx\n"[..], b"\n", b"\0", b"plan=1\n"]);
+    if random.once_in(2) {
+        (0..length).map(|_| random.number() as u8).collect()
+    } else {
+        (0..length).map(|i| if random.once_in(20) { random.number() as u8 } else { from[i % from.len()] }).collect()
+    }
+}
+
+/// Where the values of a text stand: the runs of digits.
+fn values(text: &[u8]) -> Vec<std::ops::Range<usize>> {
+    let mut runs: Vec<std::ops::Range<usize>> = vec![];
+    for (at, byte) in text.iter().enumerate() {
+        match runs.last_mut() {
+            Some(run) if byte.is_ascii_digit() && run.end == at => run.end += 1,
+            _ if byte.is_ascii_digit() => runs.push(at..at + 1),
+            _ => {}
+        }
+    }
+    runs
+}
+
+fn with_value(random: &mut Random, text: &[u8], value: &str) -> Vec<u8> {
+    let mut text = text.to_vec();
+    let runs = values(&text);
+    if !runs.is_empty() {
+        let run = runs[random.index(runs.len())].clone();
+        text.splice(run, value.bytes());
+    }
+    text
+}
+
+/// One to three faults in the text.
+fn damaged(random: &mut Random, mut text: Vec<u8>) -> Vec<u8> {
+    for _ in 0..random.between(1, 3) {
+        if text.is_empty() {
+            return text;
+        }
+        text = damage(random, text);
+    }
+    text
+}
+
+fn damage(random: &mut Random, mut text: Vec<u8>) -> Vec<u8> {
+    let at = random.index(text.len());
+    let mut lines: Vec<Vec<u8>> = text.split_inclusive(|&b| b == b'\n').map(<[u8]>::to_vec).collect();
+    let line = random.index(lines.len());
+    match random.below(16) {
+        0 => text[at] ^= 1 << random.below(8),
+        1 => text[at] = random.number() as u8,
+        2 => text[at] = random.pick(b"\0\r\n 0,=-+9aspx"),
+        3 => {
+            text.remove(at);
+        }
+        4 => text.insert(at, random.pick(b"\0\r\n 0,=-+9aspx")),
+        5 => text.truncate(at),
+        6 => {
+            text.pop();
+        }
+        7 => text.extend_from_slice(random.pick(&[&b"\n"[..], b"\0", b"x", b"node=a,0\n", b"plan=1\n"])),
+        8 => {
+            lines.remove(line);
+            text = lines.concat();
+        }
+        9 => {
+            lines.insert(line, lines[line].clone());
+            text = lines.concat();
+        }
+        10 => {
+            let other = random.index(lines.len());
+            lines.swap(line, other);
+            text = lines.concat();
+        }
+        11 => {
+            let keep = random.below(lines[line].len() as u64) as usize;
+            lines[line].truncate(keep);
+            text = lines.concat();
+        }
+        12 => {
+            let all = random.once_in(2);
+            for (number, bytes) in lines.iter_mut().enumerate() {
+                if (all || number == line) && bytes.ends_with(b"\n") {
+                    bytes.insert(bytes.len() - 1, b'\r');
+                }
+            }
+            text = lines.concat();
+        }
+        13 => {
+            let runs = values(&text);
+            if !runs.is_empty() {
+                text.insert(runs[random.index(runs.len())].start, b'0');
+            }
+        }
+        14 => {
+            let value = random.pick(&["100000", "000001", "00000", "999999", "4294967297", "18446744073709551617", ""]);
+            text = with_value(random, &text, value);
+        }
+        _ => {
+            let value = random.below(100_000).to_string();
+            text = with_value(random, &text, &value);
+        }
+    }
+    text
+}

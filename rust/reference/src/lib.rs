@@ -1,0 +1,121 @@
+//! An independent, plain implementation of the six calls, from the definitions alone.
+//!
+//! The active schedules are found in three ways that share nothing but the test of what is active:
+//! `definition` tries every start, `orders` tries every order on every resource, `insertion` adds
+//! activities by rising start. The tests hold them against each other.
+
+pub mod definition;
+pub mod file;
+pub mod insertion;
+pub mod orders;
+pub mod project;
+pub mod random;
+pub mod rows;
+pub mod term;
+
+use calls::{Answer, Best, Planner, Refusal, Size, Timetable, MARK};
+use file::{Activity, Plan};
+use project::Project;
+use rows::{rows, Rows};
+use term::Term;
+
+pub fn refusal(number: u64, figure: u64) -> Refusal {
+    Refusal { number, figure }
+}
+
+impl Plan {
+    /// The term of variant `number`; refusal 9 if there is none.
+    pub fn variant(&self, number: u64) -> Answer<Term> {
+        if number < self.term.variant_count() {
+            Ok(self.term.variant(number))
+        } else {
+            Err(refusal(9, 0))
+        }
+    }
+
+    pub fn written(&self, number: u64) -> Answer<Vec<u8>> {
+        let chosen = self.variant(number)?.dissolved();
+        Ok(file::text(self.resources, &self.activities, &chosen))
+    }
+}
+
+/// Does the timetable have the mark exactly at the absent activities, and is it feasible?
+pub fn is_session(activities: &[Activity], chosen: &Term, starts: &Timetable) -> bool {
+    let project = Project::new(activities, chosen);
+    let marked = (0..starts.len()).all(|i| (starts[i] == MARK) != project.numbers.contains(&i));
+    let starts: Vec<u64> = project.numbers.iter().map(|&i| u64::from(starts[i])).collect();
+    marked && project.is_feasible(&starts)
+}
+
+/// The makespan of a row: a variant and then a start for each activity.
+pub fn makespan_of(plan: &Plan, row: &[u16]) -> u64 {
+    let present = || (0..plan.activities.len()).filter(|&i| row[i + 1] != MARK);
+    let start = |i: usize| u64::from(row[i + 1]);
+    let latest = present().map(|i| start(i) + plan.activities[i].duration).max().unwrap();
+    latest - present().map(start).min().unwrap()
+}
+
+/// The reference as a planner. It may take long where the pairs are many.
+pub struct Reference;
+
+impl Reference {
+    fn rows(&self, file: &[u8], cap: u32) -> Answer<(Plan, Vec<Vec<u16>>)> {
+        let plan = file::parse(file)?;
+        let mut steps = 4000;
+        loop {
+            match rows(&plan, u64::from(cap), steps) {
+                Rows::All(rows) => return Ok((plan, rows)),
+                Rows::OverCap => return Err(refusal(7, 0)),
+                Rows::Unsettled => steps *= 16,
+            }
+        }
+    }
+}
+
+impl Planner for Reference {
+    fn read(&self, file: &[u8]) -> Answer<Size> {
+        let plan = file::parse(file)?;
+        Ok(Size {
+            activities: plan.activities.len() as u64,
+            nodes: plan.term.nodes().len() as u64,
+            variants: plan.term.variant_count(),
+        })
+    }
+
+    fn write(&self, file: &[u8], variant: u64, area: &mut [u8]) -> Answer<u64> {
+        let text = file::parse(file)?.written(variant)?;
+        if area.len() < text.len() {
+            return Err(refusal(8, text.len() as u64));
+        }
+        area[..text.len()].copy_from_slice(&text);
+        Ok(text.len() as u64)
+    }
+
+    fn check(&self, file: &[u8], variant: u64, starts: &Timetable) -> Answer<bool> {
+        let plan = file::parse(file)?;
+        let chosen = plan.variant(variant)?;
+        Ok(is_session(&plan.activities, &chosen, starts))
+    }
+
+    fn count(&self, file: &[u8], cap: u32) -> Answer<u64> {
+        Ok(self.rows(file, cap)?.1.len() as u64)
+    }
+
+    fn list(&self, file: &[u8], cap: u32, area: &mut [u16]) -> Answer<u64> {
+        let rows = self.rows(file, cap)?.1;
+        let cells = rows.concat();
+        if area.len() < cells.len() {
+            return Err(refusal(8, cells.len() as u64));
+        }
+        area[..cells.len()].copy_from_slice(&cells);
+        Ok(rows.len() as u64)
+    }
+
+    fn best(&self, file: &[u8], cap: u32, starts: &mut Timetable) -> Answer<Best> {
+        let (plan, rows) = self.rows(file, cap)?;
+        let row = rows.iter().min_by_key(|row| makespan_of(&plan, row)).unwrap();
+        starts.fill(MARK);
+        starts[..row.len() - 1].copy_from_slice(&row[1..]);
+        Ok(Best { variant: u64::from(row[0]), makespan: makespan_of(&plan, row), count: rows.len() as u64 })
+    }
+}

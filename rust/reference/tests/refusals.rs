@@ -1,0 +1,118 @@
+//! The table of refusals, both sides of each limit.
+
+use calls::{Planner, Refusal};
+use reference::{refusal, Reference};
+
+fn read(file: &[u8]) -> Result<u64, Refusal> {
+    Reference.read(file).map(|size| size.variants)
+}
+
+/// Of a text whose lines are shown with `/`.
+fn of(text: &str) -> Result<u64, Refusal> {
+    read((text.replace('/', "\n") + "\n").as_bytes())
+}
+
+const SMALL: &str = "plan=1/res=2/acts=2/act=0,1/act=1,2000/nodes=3/node=s,2/node=a,0/node=a,1";
+
+/// `SMALL` with one part replaced.
+fn with(part: &str, by: &str) -> Result<u64, Refusal> {
+    assert!(SMALL.contains(part));
+    of(&SMALL.replace(part, by))
+}
+
+#[test]
+fn length() {
+    let longest = "plan=1/res=16/acts=24".to_string()
+        + &"/act=15,2000".repeat(24)
+        + "/nodes=64/node=x,63"
+        + &"/node=a,23".repeat(63);
+    assert_eq!(longest.len() + 1, 959);
+    assert_eq!(of(&longest), Ok(63));
+    assert_eq!(of(&(longest + "/")), Err(refusal(1, 0)));
+    assert_eq!(read(b""), Err(refusal(1, 0)));
+    assert_eq!(read(&[0; 960]), Err(refusal(1, 0)));
+    assert_eq!(read(&[0; 959]), Err(refusal(2, 1)));
+}
+
+#[test]
+fn form() {
+    assert_eq!(of(SMALL), Ok(1));
+    for (part, by, line) in [
+        ("plan=1", "plan=01", 1),
+        ("plan=1", "plan=", 1),
+        ("plan=1", "plan=x", 1),
+        ("plan=1", "Plan=1", 1),
+        ("plan=1", "plan=1\r", 1),
+        ("plan=1", " plan=1", 1),
+        ("plan=1", "plan=+1", 1),
+        ("plan=1", "plan=1/", 2),
+        ("res=2", "res=2,1", 2),
+        ("res=2", "res=000002", 2),
+        ("res=2", "res=100000", 2),
+        ("res=2", "res=2\0", 2),
+        ("res=2/", "", 2),
+        ("act=0,1", "act=0,01", 4),
+        ("act=0,1", "act=00,1", 4),
+        ("act=0,1", "act=0", 4),
+        ("act=0,1", "act=0,1,", 4),
+        ("act=0,1", "act=9,01", 4),
+        ("acts=2", "acts=3", 6),
+        ("acts=2", "acts=1", 5),
+        ("node=s,2", "node=S,2", 7),
+        ("node=s,2", "node=b,2", 7),
+        ("node=s,2", "node=s2", 7),
+        ("node=s,2", "node=ss,2", 7),
+        ("nodes=3", "nodes=4", 10),
+        ("nodes=3", "nodes=2", 9),
+    ] {
+        assert_eq!(with(part, by), Err(refusal(2, line)), "{by:?} for {part:?}");
+    }
+    let text = SMALL.replace('/', "\n");
+    assert_eq!(read(text.as_bytes()), Err(refusal(2, 9)));
+    assert_eq!(read((text.clone() + "\n\n").as_bytes()), Err(refusal(2, 10)));
+    assert_eq!(read((text + "\nx").as_bytes()), Err(refusal(2, 10)));
+}
+
+#[test]
+fn range() {
+    for (part, by, line) in [
+        ("plan=1", "plan=2", 1),
+        ("plan=1", "plan=0", 1),
+        ("res=2", "res=0", 2),
+        ("res=2", "res=17", 2),
+        ("res=2", "res=99999", 2),
+        ("acts=2", "acts=0", 3),
+        ("acts=2", "acts=25", 3),
+        ("act=0,1", "act=2,1", 4),
+        ("act=0,1", "act=0,0", 4),
+        ("act=1,2000", "act=1,2001", 5),
+        ("nodes=3", "nodes=0", 6),
+        ("nodes=3", "nodes=65", 6),
+        ("node=s,2", "node=s,0", 7),
+        ("node=s,2", "node=p,64", 7),
+        ("node=s,2", "node=x,0", 7),
+        ("node=a,1", "node=a,2", 9),
+        // a line before one that is ill formed
+        ("act=0,1/act=1,2000", "act=2,1/act=1,02000", 4),
+    ] {
+        assert_eq!(with(part, by), Err(refusal(3, line)), "{by:?} for {part:?}");
+    }
+    assert_eq!(with("res=2", "res=16"), Ok(1));
+}
+
+#[test]
+fn terms() {
+    for by in ["node=s,1", "node=s,3", "node=a,0", "node=p,63"] {
+        assert_eq!(with("node=s,2", by), Err(refusal(4, 0)), "{by}");
+    }
+    assert_eq!(with("nodes=3/node=s,2/node=a,0/node=a,1", "nodes=1/node=s,1"), Err(refusal(4, 0)));
+    assert_eq!(with("node=a,1", "node=a,0"), Err(refusal(5, 0)));
+    assert_eq!(with("node=s,2/node=a,0/node=a,1", "node=x,2/node=a,0/node=a,0"), Ok(2));
+    // 64 nodes: 63 groups of one
+    let groups = "/node=x,1".repeat(63) + "/node=a,1";
+    assert_eq!(with("nodes=3/node=s,2/node=a,0/node=a,1", &format!("nodes=64{groups}")), Ok(1));
+    // an activity twice comes before too many variants
+    let choices = "/node=x,4/node=a,0/node=a,1/node=a,0/node=a,1".repeat(12);
+    let twice = format!("nodes=61/node=p,12{choices}");
+    assert_eq!(with("nodes=3/node=s,2/node=a,0/node=a,1", &twice), Err(refusal(5, 0)));
+}
