@@ -1,8 +1,9 @@
 -- Every row of the table holds of the definitions: one test, computed over the whole table.
 use mathlib.Core.Bool.{Bool, true}
-use mathlib.Core.List.{List, [], _∷_, List·Memᴰ, List·Memᴰ·cases-cons, List·Memᴰ·not-nil}
+use mathlib.Core.List.{List, [], _∷_, _++_, List·Memᴰ, List·Memᴰ·cases-cons, List·Memᴰ·not-nil}
 use mathlib.Core.Logic.{⊎-elim}
 use mathlib.Core.Path.{_≡_, refl, sym, subst, _∙_}
+use lib.ListN.{length, drop}
 use Rattle.plan.specs.Plan.{every}
 use Rattle.format.proofs.Tests.{first, second}
 use Rattle.format.specs.Parse.{parse, planLines, aLine, theLines, theEnd}
@@ -10,18 +11,38 @@ use Rattle.format.specs.Lines.{found, digits, isValue, decimal}
 use Rattle.term.specs.Term.{termOf, forest, place, size, firsts, others}
 use Rattle.term.specs.Variants.{activities, member, some-of}
 use Rattle.term.proofs.Model.{count, clash, share}
+use Rattle.read.specs.Judge.{judge}
 use Rattle.read.proofs.Model.{readBy, read-by}
-use Rattle.campaigns.specs.Table.{Row, reads, Holds, table}
-use Rattle.campaigns.proofs.Tests.{sameRead, read-same}
+use Rattle.format.specs.Lines
+use Rattle.format.specs.Lines.{filled}
+use Rattle.format.specs.Text.{text, actLines, nodeLines}
+use Rattle.term.specs.Term.{nodes}
+use Rattle.term.specs.Variants.{twice, repeats, variants, paired, variantCount}
+use Rattle.schedule.specs.Below.{everyBelow, sumBelow, maxBelow}
+use Rattle.schedule.specs.Schedule.{feasible, placed, inOrder, withinCapacity, load, latestEnd}
+use Rattle.variant.specs.Precedence.{precedes}
+use Rattle.variant.specs.Project.{projectOf}
+use Rattle.variant.specs.Written.{written, variantPlan, dissolved, joined}
+use Rattle.sessions.specs.Timetable.{isSession, isMarked}
+use Rattle.write.specs.Answer.{writeOf}
+use Rattle.write.specs.declared.WriteAnswer.the-variants.{Written}
+use Rattle.inspect.specs.Answer.{checkOf}
+use Rattle.campaigns.specs.Table.{Row, reads, writes, checks, Holds, table, lent}
+use Rattle.campaigns.proofs.Tests.{sameRead, read-same, sameOutcome, outcome-same, sameCheck, check-same}
 
 abbrev test : Row → Bool
 test (reads s answer) = sameRead (readBy s) answer
+test (writes s v bytes) =
+    sameOutcome (writeOf s v lent) (record { answer = Written (length bytes); area = bytes ++ drop (length bytes) lent })
+test (checks s v starts answer) = sameCheck (checkOf s v starts) answer
 
 test-holds : (row : Row) → test row ≡ true → Holds row
 test-holds (reads s answer) e = read-by s ∙ read-same (readBy s) answer e
+test-holds (writes s v bytes) e = outcome-same (writeOf s v lent) _ e
+test-holds (checks s v starts answer) e = check-same (checkOf s v starts) answer e
 
 all-pass : every test table ≡ true
-unfolding table readBy parse planLines aLine theLines theEnd found digits isValue decimal termOf forest place size firsts others activities member some-of count clash share
+unfolding table readBy parse planLines aLine theLines theEnd found digits isValue decimal termOf forest place size firsts others activities member some-of count clash share writeOf checkOf judge twice repeats variants paired variantCount written variantPlan dissolved joined text actLines nodeLines filled Lines.written nodes isSession isMarked feasible placed inOrder withinCapacity load latestEnd everyBelow sumBelow maxBelow projectOf precedes
 all-pass = refl
 
 every-of : (xs : List Row) → every test xs ≡ true → (row : Row) → List·Memᴰ row xs → test row ≡ true

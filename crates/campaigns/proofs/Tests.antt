@@ -1,7 +1,8 @@
 -- Tests that two answers are the same.
 use Prim.Native.Nat.{ℕ}
-use mathlib.Core.Bool.{Bool, true, false, false≢true, _&&_}
-use mathlib.Core.Path.{_≡_, refl, sym, ap₂, _∙_}
+use mathlib.Core.Bool.{Bool, true, false, false≢true, Bool·beq, _&&_}
+use mathlib.Core.List.{List, [], _∷_}
+use mathlib.Core.Path.{_≡_, refl, sym, ap, ap₂, _∙_}
 use borrow.Author.Tests.{eqb-true}
 use lib.Dec.{eqb}
 use Rattle.plan.specs.Refusals.{numberOf, figureOf}
@@ -10,6 +11,11 @@ use Rattle.plan.specs.declared.Refusal.the-variants.{Length, Form, Range, NotOn
 use Rattle.read.specs.declared.ReadAnswer.{ReadAnswer}
 use Rattle.read.specs.declared.ReadAnswer.the-variants.{Read, Refused}
 use Rattle.format.proofs.Tests.{first, second}
+use Rattle.write.specs.Answer.{Outcome}
+use Rattle.write.specs.declared.WriteAnswer.{WriteAnswer}
+use Rattle.write.specs.declared.WriteAnswer.the-variants as Write
+use Rattle.inspect.specs.declared.CheckAnswer.{CheckAnswer}
+use Rattle.inspect.specs.declared.CheckAnswer.the-variants as Check
 
 -- The refusal of a number and a figure.
 refusalOf : ℕ → ℕ → Refusal
@@ -75,3 +81,55 @@ read-same (Read n m v) (Read n′ m′ v′) e =
 read-same (Read n m v) (Refused r) e = absurd (false≢true e)
 read-same (Refused r) (Read n m v) e = absurd (false≢true e)
 read-same (Refused r) (Refused r′) e = let h = refusal-same r r′ e in cc
+
+abbrev pub sameList : List ℕ → List ℕ → Bool
+sameList [] [] = true
+sameList [] (y ∷ ys) = false
+sameList (x ∷ xs) [] = false
+sameList (x ∷ xs) (y ∷ ys) = eqb x y && sameList xs ys
+
+pub list-same : (xs ys : List ℕ) → sameList xs ys ≡ true → xs ≡ ys
+list-same [] [] e = refl
+list-same [] (y ∷ ys) e = absurd (false≢true e)
+list-same (x ∷ xs) [] e = absurd (false≢true e)
+list-same (x ∷ xs) (y ∷ ys) e =
+    ap₂ _∷_ (eqb-true x y (first _ _ e)) (list-same xs ys (second (eqb x y) _ e))
+
+abbrev pub sameWrite : WriteAnswer → WriteAnswer → Bool
+sameWrite (Write.Written n) (Write.Written m) = eqb n m
+sameWrite (Write.Written n) (Write.Refused r) = false
+sameWrite (Write.Refused r) (Write.Written n) = false
+sameWrite (Write.Refused r) (Write.Refused r′) = sameRefusal r r′
+
+write-same : (a b : WriteAnswer) → sameWrite a b ≡ true → a ≡ b
+write-same (Write.Written n) (Write.Written m) e = ap Write.Written (eqb-true n m e)
+write-same (Write.Written n) (Write.Refused r) e = absurd (false≢true e)
+write-same (Write.Refused r) (Write.Written n) e = absurd (false≢true e)
+write-same (Write.Refused r) (Write.Refused r′) e = ap Write.Refused (refusal-same r r′ e)
+
+abbrev pub sameOutcome : Outcome → Outcome → Bool
+sameOutcome a b = sameWrite (a .answer) (b .answer) && sameList (a .area) (b .area)
+
+pub outcome-same : (a b : Outcome) → sameOutcome a b ≡ true → a ≡ b
+outcome-same a b e =
+    let x = write-same (a .answer) (b .answer) (first _ _ e) in
+    let y = list-same (a .area) (b .area) (second (sameWrite (a .answer) (b .answer)) _ e) in
+    λ i. record { answer = x i; area = y i }
+
+abbrev pub sameCheck : CheckAnswer → CheckAnswer → Bool
+sameCheck (Check.Checked a) (Check.Checked b) = Bool·beq a b
+sameCheck (Check.Checked a) (Check.Refused r) = false
+sameCheck (Check.Refused r) (Check.Checked a) = false
+sameCheck (Check.Refused r) (Check.Refused r′) = sameRefusal r r′
+
+bool-same : (a b : Bool) → Bool·beq a b ≡ true → a ≡ b
+bool-same true true e = refl
+bool-same true false e = absurd (false≢true e)
+bool-same false true e = absurd (false≢true e)
+bool-same false false e = refl
+
+pub check-same : (a b : CheckAnswer) → sameCheck a b ≡ true → a ≡ b
+check-same (Check.Checked a) (Check.Checked b) e = ap Check.Checked (bool-same a b e)
+check-same (Check.Checked a) (Check.Refused r) e = absurd (false≢true e)
+check-same (Check.Refused r) (Check.Checked a) e = absurd (false≢true e)
+check-same (Check.Refused r) (Check.Refused r′) e = ap Check.Refused (refusal-same r r′ e)

@@ -1,15 +1,23 @@
 -- The worked campaigns of the paper, each with the answer that the paper gives. A row is a call, a file and the answer.
 use Prim.Native.Char.{code}
-use Prim.Native.Nat.{ℕ, zero, suc}
+use Prim.Native.Nat.{ℕ, zero, suc, _-_}
 use Prim.Native.String.{String}
 use mathlib.Core.Bool.{true, false}
 use mathlib.Core.List.{List, [], _∷_, _++_}
 use mathlib.Core.Path.{_≡_}
 use lib.Dec.{eqb}
-use Rattle.plan.specs.declared.Refusal.the-variants.{Range, Form, Twice, TooManyVariants}
+use lib.ListN.{length, drop, replicate}
+use Rattle.plan.specs.declared.Refusal.the-variants.{Range, Form, Twice, TooManyVariants, NoSuchVariant}
 use Rattle.read.specs.Answer.{readOf}
 use Rattle.read.specs.declared.ReadAnswer.{ReadAnswer}
 use Rattle.read.specs.declared.ReadAnswer.the-variants.{Read, Refused}
+use Rattle.timetable.specs.Mark.{mark, places}
+use Rattle.write.specs.Answer.{writeOf}
+use Rattle.write.specs.declared.WriteAnswer.the-variants.{Written}
+use Rattle.inspect.specs.Answer.{checkOf}
+use Rattle.inspect.specs.declared.CheckAnswer.{CheckAnswer}
+use Rattle.inspect.specs.declared.CheckAnswer.the-variants.{Checked}
+use Rattle.inspect.specs.declared.CheckAnswer.the-variants as CheckAnswers
 
 -- The bytes of a text whose lines are shown with `/` (47): each line is ended by byte 10.
 abbrev pub file : String → List ℕ
@@ -20,17 +28,37 @@ abbrev pub times : ℕ → List ℕ → List ℕ
 times zero s = []
 times (suc n) s = s ++ times n s
 
+-- A timetable of the starts of the first activities; the others are absent.
+abbrev pub timetable : List ℕ → List ℕ
+timetable starts = starts ++ replicate (places - length starts) mark
+
+abbrev pub absent : ℕ
+absent = mark
+
+-- An area of 150 bytes that are all 7.
+abbrev pub lent : List ℕ
+lent = replicate 150 7
+
 pub data Row : Type 0 where
   reads : List ℕ → ReadAnswer → Row
+  writes : List ℕ → ℕ → List ℕ → Row
+  checks : List ℕ → ℕ → List ℕ → CheckAnswer → Row
 
 -- What a row says of the definitions.
 abbrev pub Holds : Row → Type 0
 Holds (reads s answer) = readOf s ≡ answer
+Holds (writes s v bytes) =
+    writeOf s v lent ≡ record { answer = Written (length bytes); area = bytes ++ drop (length bytes) lent }
+Holds (checks s v starts answer) = checkOf s v starts ≡ answer
+
+abbrev pub dotTest : List ℕ
+dotTest =
+    file "plan=1/res=3/acts=5/act=0,4/act=1,2/act=1,3/act=2,5/act=1,6/nodes=9/node=s,2/node=x,2/node=a,0/node=p,2/node=a,1/node=a,2/node=p,2/node=a,3/node=a,4"
 
 unfoldable pub table : List Row
 table =
     -- The dot test.
-    reads (file "plan=1/res=3/acts=5/act=0,4/act=1,2/act=1,3/act=2,5/act=1,6/nodes=9/node=s,2/node=x,2/node=a,0/node=p,2/node=a,1/node=a,2/node=p,2/node=a,3/node=a,4") (Read 5 9 2)
+    reads dotTest (Read 5 9 2)
     -- Durations on both sides of their limits, and a leading zero.
     ∷ reads (file "plan=1/res=1/acts=1/act=0,2000/nodes=1/node=a,0") (Read 1 1 1)
     ∷ reads (file "plan=1/res=1/acts=1/act=0,2001/nodes=1/node=a,0") (Refused (Range 4))
@@ -42,4 +70,22 @@ table =
     -- p over twelve x of two distinct activities, and with one of an x's two activities named there a second time.
     ∷ reads (file "plan=1/res=1/acts=24" ++ (times 24 (file "act=0,1") ++ (file "nodes=37/node=p,12/node=x,2/node=a,0/node=a,1" ++ (file "node=x,2/node=a,2/node=a,3/node=x,2/node=a,4/node=a,5/node=x,2/node=a,6/node=a,7/node=x,2/node=a,8/node=a,9/node=x,2/node=a,10/node=a,11/node=x,2/node=a,12/node=a,13" ++ file "node=x,2/node=a,14/node=a,15/node=x,2/node=a,16/node=a,17/node=x,2/node=a,18/node=a,19/node=x,2/node=a,20/node=a,21/node=x,2/node=a,22/node=a,23")))) (Read 24 37 4096)
     ∷ reads (file "plan=1/res=1/acts=24" ++ (times 24 (file "act=0,1") ++ (file "nodes=38/node=p,12/node=x,3/node=a,0/node=a,1/node=a,0" ++ (file "node=x,2/node=a,2/node=a,3/node=x,2/node=a,4/node=a,5/node=x,2/node=a,6/node=a,7/node=x,2/node=a,8/node=a,9/node=x,2/node=a,10/node=a,11/node=x,2/node=a,12/node=a,13" ++ file "node=x,2/node=a,14/node=a,15/node=x,2/node=a,16/node=a,17/node=x,2/node=a,18/node=a,19/node=x,2/node=a,20/node=a,21/node=x,2/node=a,22/node=a,23")))) (Refused TooManyVariants)
+    -- The dot test's variants written out; there is no third.
+    ∷ writes dotTest 0 (file "plan=1/res=3/acts=5/act=0,4/act=1,2/act=1,3/act=2,5/act=1,6/nodes=5/node=s,2/node=a,0/node=p,2/node=a,3/node=a,4")
+    ∷ checks dotTest 2 (timetable []) (CheckAnswers.Refused NoSuchVariant)
+    -- An s in an s through a picked x is dissolved, and an s in a p is not.
+    ∷ writes (file "plan=1/res=1/acts=4/act=0,1/act=0,1/act=0,1/act=0,1/nodes=7/node=s,2/node=x,2/node=s,2/node=a,0/node=a,1/node=a,2/node=a,3") 0 (file "plan=1/res=1/acts=4/act=0,1/act=0,1/act=0,1/act=0,1/nodes=4/node=s,3/node=a,0/node=a,1/node=a,3")
+    ∷ writes (file "plan=1/res=1/acts=2/act=0,1/act=0,1/nodes=4/node=p,2/node=s,1/node=a,0/node=a,1") 0 (file "plan=1/res=1/acts=2/act=0,1/act=0,1/nodes=4/node=p,2/node=s,1/node=a,0/node=a,1")
+    -- Groups of one: an s in an s is dissolved, an s in a p stays.
+    ∷ writes (file "plan=1/res=1/acts=1/act=0,1/nodes=4/node=p,1/node=s,1/node=s,1/node=a,0") 0 (file "plan=1/res=1/acts=1/act=0,1/nodes=3/node=p,1/node=s,1/node=a,0")
+    -- An x under an s under an x.
+    ∷ writes (file "plan=1/res=1/acts=4/act=0,1/act=0,1/act=0,1/act=0,1/nodes=7/node=x,2/node=s,2/node=x,2/node=a,0/node=a,1/node=a,2/node=a,3") 1 (file "plan=1/res=1/acts=4/act=0,1/act=0,1/act=0,1/act=0,1/nodes=3/node=s,2/node=a,1/node=a,2")
+    ∷ writes (file "plan=1/res=1/acts=4/act=0,1/act=0,1/act=0,1/act=0,1/nodes=7/node=x,2/node=s,2/node=x,2/node=a,0/node=a,1/node=a,2/node=a,3") 2 (file "plan=1/res=1/acts=4/act=0,1/act=0,1/act=0,1/act=0,1/nodes=1/node=a,3")
+    -- The dot test's shortest session; one tick too early; two on a device at once; a present one with the mark; an absent one with a start.
+    ∷ checks dotTest 0 (timetable (0 ∷ absent ∷ absent ∷ 4 ∷ 4 ∷ [])) (Checked true)
+    ∷ checks dotTest 0 (timetable (0 ∷ absent ∷ absent ∷ 4 ∷ 3 ∷ [])) (Checked false)
+    ∷ checks dotTest 1 (timetable (absent ∷ 0 ∷ 1 ∷ 5 ∷ 5 ∷ [])) (Checked false)
+    ∷ checks dotTest 1 (timetable (absent ∷ 0 ∷ 2 ∷ 5 ∷ 5 ∷ [])) (Checked true)
+    ∷ checks dotTest 0 (timetable (0 ∷ absent ∷ absent ∷ 4 ∷ [])) (Checked false)
+    ∷ checks dotTest 0 (timetable (0 ∷ 0 ∷ absent ∷ 4 ∷ 4 ∷ [])) (Checked false)
     ∷ []
