@@ -1,8 +1,8 @@
 -- Every row of the table holds of the definitions: one test, computed over the whole table.
-use mathlib.Core.Bool.{Bool, true}
+use mathlib.Core.Bool.{Bool, true, _&&_}
 use mathlib.Core.List.{List, [], _∷_, _++_, List·Memᴰ, List·Memᴰ·cases-cons, List·Memᴰ·not-nil}
 use mathlib.Core.Logic.{⊎-elim}
-use mathlib.Core.Path.{_≡_, refl, sym, subst, _∙_}
+use mathlib.Core.Path.{_≡_, refl, sym, ap, subst, _∙_}
 use lib.ListN.{length, drop}
 use Rattle.plan.specs.Plan.{every}
 use Rattle.format.proofs.Tests.{first, second}
@@ -27,22 +27,39 @@ use Rattle.sessions.specs.Timetable.{isSession, isMarked}
 use Rattle.write.specs.Answer.{writeOf}
 use Rattle.write.specs.declared.WriteAnswer.the-variants.{Written}
 use Rattle.inspect.specs.Answer.{checkOf}
-use Rattle.campaigns.specs.Table.{Row, reads, writes, checks, Holds, table, lent}
-use Rattle.campaigns.proofs.Tests.{sameRead, read-same, sameOutcome, outcome-same, sameCheck, check-same}
+use Rattle.campaigns.specs.Table.{Row, reads, writes, checks, counts, lists, spans, Holds, table, lent}
+use Rattle.schedule.specs.Sessions.{gather}
+use Rattle.sets.specs.Sets
+use Rattle.sets.specs.Sets.{has, meet}
+use Rattle.scan.proofs.Model.{leastBelow, ready, earliest, finish, isOpen, keyOf, key, isChoice, freeze, branches, leaves, root, scanned, startOf, starts}
+use Rattle.seam.proofs.Posed.{setOf, problemOf, presentOf}
+use Rattle.campaigns.proofs.Searched.{total, countModel, count-is, listModel, list-is, spansModel, hasModel, spans-is}
+use Rattle.campaigns.proofs.Tests.{sameList, list-same, sameCount, count-same, sameListing, listing-same, sameRead, read-same, sameOutcome, outcome-same, sameCheck, check-same}
 
 abbrev test : Row → Bool
 test (reads s answer) = sameRead (readBy s) answer
 test (writes s v bytes) =
     sameOutcome (writeOf s v lent) (record { answer = Written (length bytes); area = bytes ++ drop (length bytes) lent })
 test (checks s v starts answer) = sameCheck (checkOf s v starts) answer
+test (counts s cap answer) = sameCount (countModel s cap) answer
+test (lists s cap cells answer) = sameListing (listModel s cap cells) answer
+test (spans s v makespans) = hasModel s v && sameList (spansModel s v) makespans
 
 test-holds : (row : Row) → test row ≡ true → Holds row
 test-holds (reads s answer) e = read-by s ∙ read-same (readBy s) answer e
 test-holds (writes s v bytes) e = outcome-same (writeOf s v lent) _ e
 test-holds (checks s v starts answer) e = check-same (checkOf s v starts) answer e
+test-holds (counts s cap answer) e = count-is s cap ∙ count-same (countModel s cap) answer e
+test-holds (lists s cap cells answer) e =
+    λ before after given size listing.
+    list-is s cap before given after listing
+    ∙ ap (listModel s cap) size
+    ∙ listing-same (listModel s cap cells) answer e
+test-holds (spans s v makespans) e =
+    spans-is s v makespans (first (hasModel s v) _ e) (list-same (spansModel s v) makespans (second (hasModel s v) _ e))
 
 all-pass : every test table ≡ true
-unfolding table readBy parse planLines aLine theLines theEnd found digits isValue decimal termOf forest place size firsts others activities member some-of count clash share writeOf checkOf judge twice repeats variants paired variantCount written variantPlan dissolved joined text actLines nodeLines filled Lines.written nodes isSession isMarked feasible placed inOrder withinCapacity load latestEnd everyBelow sumBelow maxBelow projectOf precedes
+unfolding table readBy parse planLines aLine theLines theEnd found digits isValue decimal termOf forest place size firsts others activities member some-of count clash share writeOf checkOf judge twice repeats variants paired variantCount written variantPlan dissolved joined text actLines nodeLines filled Lines.written nodes isSession isMarked feasible placed inOrder withinCapacity load latestEnd everyBelow sumBelow maxBelow projectOf precedes countModel listModel spansModel hasModel total problemOf presentOf setOf gather scanned leaves branches root freeze isChoice key keyOf leastBelow isOpen finish earliest ready Sets.size has meet starts startOf
 all-pass = refl
 
 every-of : (xs : List Row) → every test xs ≡ true → (row : Row) → List·Memᴰ row xs → test row ≡ true

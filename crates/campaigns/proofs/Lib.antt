@@ -1,3 +1,4 @@
 -- The worked campaigns, proved.
 pub mod Tests
+pub mod Searched
 pub mod Campaigns

@@ -14,6 +14,10 @@ use Rattle.format.proofs.Tests.{first, second}
 use Rattle.write.specs.Answer.{Outcome}
 use Rattle.write.specs.declared.WriteAnswer.{WriteAnswer}
 use Rattle.write.specs.declared.WriteAnswer.the-variants as Write
+use Rattle.listing.specs.declared.CountAnswer.{CountAnswer}
+use Rattle.listing.specs.declared.CountAnswer.the-variants as Count
+use Rattle.listing.specs.declared.ListAnswer.{ListAnswer}
+use Rattle.listing.specs.declared.ListAnswer.the-variants as Listing
 use Rattle.inspect.specs.declared.CheckAnswer.{CheckAnswer}
 use Rattle.inspect.specs.declared.CheckAnswer.the-variants as Check
 
@@ -133,3 +137,27 @@ check-same (Check.Checked a) (Check.Checked b) e = ap Check.Checked (bool-same a
 check-same (Check.Checked a) (Check.Refused r) e = absurd (false≢true e)
 check-same (Check.Refused r) (Check.Checked a) e = absurd (false≢true e)
 check-same (Check.Refused r) (Check.Refused r′) e = ap Check.Refused (refusal-same r r′ e)
+
+abbrev pub sameCount : CountAnswer → CountAnswer → Bool
+sameCount (Count.Counted n) (Count.Counted m) = eqb n m
+sameCount (Count.Counted n) (Count.Refused r) = false
+sameCount (Count.Refused r) (Count.Counted n) = false
+sameCount (Count.Refused r) (Count.Refused r′) = sameRefusal r r′
+
+pub count-same : (a b : CountAnswer) → sameCount a b ≡ true → a ≡ b
+count-same (Count.Counted n) (Count.Counted m) e = ap Count.Counted (eqb-true n m e)
+count-same (Count.Counted n) (Count.Refused r) e = absurd (false≢true e)
+count-same (Count.Refused r) (Count.Counted n) e = absurd (false≢true e)
+count-same (Count.Refused r) (Count.Refused r′) e = ap Count.Refused (refusal-same r r′ e)
+
+abbrev pub sameListing : ListAnswer → ListAnswer → Bool
+sameListing (Listing.Listed n) (Listing.Listed m) = eqb n m
+sameListing (Listing.Listed n) (Listing.Refused r) = false
+sameListing (Listing.Refused r) (Listing.Listed n) = false
+sameListing (Listing.Refused r) (Listing.Refused r′) = sameRefusal r r′
+
+pub listing-same : (a b : ListAnswer) → sameListing a b ≡ true → a ≡ b
+listing-same (Listing.Listed n) (Listing.Listed m) e = ap Listing.Listed (eqb-true n m e)
+listing-same (Listing.Listed n) (Listing.Refused r) e = absurd (false≢true e)
+listing-same (Listing.Refused r) (Listing.Listed n) e = absurd (false≢true e)
+listing-same (Listing.Refused r) (Listing.Refused r′) e = ap Listing.Refused (refusal-same r r′ e)

@@ -1,13 +1,28 @@
 -- The worked campaigns of the paper, each with the answer that the paper gives. A row is a call, a file and the answer.
 use Prim.Native.Char.{code}
-use Prim.Native.Nat.{ℕ, zero, suc, _-_}
+use Prim.Native.Nat.{ℕ, zero, suc, _-_, _<_}
 use Prim.Native.String.{String}
 use mathlib.Core.Bool.{true, false}
-use mathlib.Core.List.{List, [], _∷_, _++_}
+use mathlib.Core.List.{List, [], _∷_, _++_, map, Perm}
 use mathlib.Core.Path.{_≡_}
 use lib.Dec.{eqb}
 use lib.ListN.{length, drop, replicate}
-use Rattle.plan.specs.declared.Refusal.the-variants.{Range, Form, Twice, TooManyVariants, NoSuchVariant}
+use Rattle.plan.specs.declared.Refusal.the-variants.{Range, Form, Twice, TooManyVariants, NoSuchVariant, OverCap, AreaTooShort}
+use Rattle.plan.specs.Plan.{Plan}
+use Rattle.term.specs.Term.{Term}
+use Rattle.term.specs.Variants.{variantCount}
+use Rattle.schedule.specs.Schedule.{makespan}
+use Rattle.schedule.specs.Sessions.{sessions, startsOf}
+use Rattle.variant.specs.Project.{projectOf, variantAt}
+use Rattle.read.specs.Judge.{accepts, judge}
+use Rattle.listing.specs.Count.{countOf}
+use Rattle.listing.specs.Listed.{ListOf}
+use Rattle.listing.specs.declared.CountAnswer.{CountAnswer}
+use Rattle.listing.specs.declared.CountAnswer.the-variants.{Counted}
+use Rattle.listing.specs.declared.CountAnswer.the-variants as CountAnswers
+use Rattle.listing.specs.declared.ListAnswer.{ListAnswer}
+use Rattle.listing.specs.declared.ListAnswer.the-variants.{Listed}
+use Rattle.listing.specs.declared.ListAnswer.the-variants as ListAnswers
 use Rattle.read.specs.Answer.{readOf}
 use Rattle.read.specs.declared.ReadAnswer.{ReadAnswer}
 use Rattle.read.specs.declared.ReadAnswer.the-variants.{Read, Refused}
@@ -43,6 +58,20 @@ pub data Row : Type 0 where
   reads : List ℕ → ReadAnswer → Row
   writes : List ℕ → ℕ → List ℕ → Row
   checks : List ℕ → ℕ → List ℕ → CheckAnswer → Row
+  counts : List ℕ → ℕ → CountAnswer → Row
+  lists : List ℕ → ℕ → ℕ → ListAnswer → Row
+  spans : List ℕ → ℕ → List ℕ → Row
+
+-- The makespans of the active sessions of variant v, in some order.
+pub record Spans (s : List ℕ) (v : ℕ) (makespans : List ℕ) : Type 0 where
+  pub plan : Plan
+  pub term : Term
+  pub accepted : judge s ≡ accepts plan term
+  pub within : v < variantCount term
+  pub same :
+      Perm
+      (map (λ row. makespan (projectOf plan (variantAt term v)) (startsOf row)) (sessions (projectOf plan (variantAt term v)) mark))
+      makespans
 
 -- What a row says of the definitions.
 abbrev pub Holds : Row → Type 0
@@ -50,6 +79,10 @@ Holds (reads s answer) = readOf s ≡ answer
 Holds (writes s v bytes) =
     writeOf s v lent ≡ record { answer = Written (length bytes); area = bytes ++ drop (length bytes) lent }
 Holds (checks s v starts answer) = checkOf s v starts ≡ answer
+Holds (counts s cap answer) = countOf s cap ≡ answer
+Holds (lists s cap cells answer) =
+    (before after : List ℕ) (given : ListAnswer) → length before ≡ cells → ListOf s cap before given after → given ≡ answer
+Holds (spans s v makespans) = Spans s v makespans
 
 abbrev pub dotTest : List ℕ
 dotTest =
@@ -88,4 +121,18 @@ table =
     ∷ checks dotTest 1 (timetable (absent ∷ 0 ∷ 2 ∷ 5 ∷ 5 ∷ [])) (Checked true)
     ∷ checks dotTest 0 (timetable (0 ∷ absent ∷ absent ∷ 4 ∷ [])) (Checked false)
     ∷ checks dotTest 0 (timetable (0 ∷ 0 ∷ absent ∷ 4 ∷ 4 ∷ [])) (Checked false)
+    -- The dot test: variant 1 has two sessions of makespan 11, variant 0 one of 10. Caps on both sides of their number.
+    ∷ spans dotTest 0 (10 ∷ [])
+    ∷ spans dotTest 1 (11 ∷ 11 ∷ [])
+    ∷ counts dotTest 3 (Counted 3)
+    ∷ counts dotTest 2 (CountAnswers.Refused OverCap)
+    ∷ counts dotTest 0 (CountAnswers.Refused OverCap)
+    ∷ lists dotTest 3 18 (Listed 3)
+    ∷ lists dotTest 3 17 (ListAnswers.Refused (AreaTooShort 18))
+    -- Activity 0 under both picks of an x counts twice.
+    ∷ counts (file "plan=1/res=1/acts=1/act=0,1/nodes=3/node=x,2/node=a,0/node=a,0") 9 (Counted 2)
+    -- Two contested devices on one tick; a free device that has to wait; document 000, Example 2, second term.
+    ∷ spans (file "plan=1/res=2/acts=4/act=0,1/act=0,1/act=1,1/act=1,1/nodes=5/node=p,4/node=a,0/node=a,1/node=a,2/node=a,3") 0 (2 ∷ 2 ∷ 2 ∷ 2 ∷ [])
+    ∷ spans (file "plan=1/res=2/acts=4/act=0,10/act=1,1/act=0,1/act=1,20/nodes=6/node=p,2/node=a,0/node=s,3/node=a,1/node=a,2/node=a,3") 0 (31 ∷ 22 ∷ [])
+    ∷ spans (file "plan=1/res=4/acts=8/act=0,1/act=1,2/act=2,2/act=1,1/act=0,1/act=0,2/act=3,1/act=1,2/nodes=13/node=p,4/node=s,2/node=p,2/node=a,0/node=a,1/node=a,2/node=s,2/node=a,3/node=a,4/node=a,5/node=s,2/node=a,6/node=a,7") 0 (5 ∷ 6 ∷ 5 ∷ 7 ∷ 5 ∷ 7 ∷ 5 ∷ 6 ∷ 5 ∷ 7 ∷ 6 ∷ 7 ∷ [])
     ∷ []

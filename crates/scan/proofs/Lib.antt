@@ -1,3 +1,2 @@
 -- The model of the search.
 pub mod Model
-pub mod Examples

@@ -81,6 +81,11 @@ module _ (p : Plan) (t : Term) (v : ℕ) (c : Chosen p t v) (q : Problem) (prese
     pub variant-makespan : latest ends ≡ makespan P (startsOf (starts q places ends))
     variant-makespan = leaf-makespan P (deviceOf p) benched q present given ends leaf places room
 
+    -- The same of the starts of the plan's own activities.
+    pub variant-span : latest ends ≡ makespan P (startsOf (starts q N ends))
+    unfolding projectOf
+    variant-span = leaf-makespan P (deviceOf p) benched q present given ends leaf N (omega arith)
+
     -- It ends by the sum of the durations.
     pub variant-early : latest ends ≤ work P
     variant-early =

@@ -1,0 +1,3 @@
+-- What the search's contracts say.
+pub mod Tables
+pub mod Seen

@@ -1,0 +1,2 @@
+-- What is kept of the schedules of all variants of a plan.
+pub mod Swept
