@@ -35,11 +35,11 @@ extern "C" {
 void vialbluff_read(const uint8_t *file, size_t file_len, uint64_t out[4]);
 
 /* Writes the variant as a plan file at the front of the area; out[1] its bytes. */
-void vialbluff_write(const uint8_t *file, size_t file_len, uint64_t variant,
+void vialbluff_write(const uint8_t *file, size_t file_len, uint32_t variant,
                      uint8_t *area, size_t area_len, uint64_t out[4]);
 
 /* out[1] 1 if the timetable is a feasible schedule of the variant, else 0. */
-void vialbluff_check(const uint8_t *file, size_t file_len, uint64_t variant,
+void vialbluff_check(const uint8_t *file, size_t file_len, uint32_t variant,
                      const uint16_t starts[VIALBLUFF_PLACES], uint64_t out[4]);
 
 /* out[1] the number of pairs of a variant and an active schedule of it. */

@@ -12,10 +12,10 @@ extern "C" {
     fn vialbluff_read(file: *const u8, file_len: usize, out: *mut Out);
 
     // 0, bytes written
-    fn vialbluff_write(file: *const u8, file_len: usize, variant: u64, area: *mut u8, area_len: usize, out: *mut Out);
+    fn vialbluff_write(file: *const u8, file_len: usize, variant: u32, area: *mut u8, area_len: usize, out: *mut Out);
 
     // 0, 1 for yes and 0 for no
-    fn vialbluff_check(file: *const u8, file_len: usize, variant: u64, starts: *const Timetable, out: *mut Out);
+    fn vialbluff_check(file: *const u8, file_len: usize, variant: u32, starts: *const Timetable, out: *mut Out);
 
     // 0, pairs
     fn vialbluff_count(file: *const u8, file_len: usize, cap: u32, out: *mut Out);
@@ -37,6 +37,11 @@ fn answer(call: impl FnOnce(&mut Out)) -> Answer<[u64; 3]> {
     }
 }
 
+/// No plan has so many variants: a greater number is refused alike.
+fn narrow(variant: u64) -> u32 {
+    u32::try_from(variant).unwrap_or(u32::MAX)
+}
+
 /// The proved planner.
 pub struct Linked;
 
@@ -49,13 +54,13 @@ impl Planner for Linked {
 
     fn write(&self, file: &[u8], variant: u64, area: &mut [u8]) -> Answer<u64> {
         let [bytes, ..] = answer(|out| unsafe {
-            vialbluff_write(file.as_ptr(), file.len(), variant, area.as_mut_ptr(), area.len(), out)
+            vialbluff_write(file.as_ptr(), file.len(), narrow(variant), area.as_mut_ptr(), area.len(), out)
         })?;
         Ok(bytes)
     }
 
     fn check(&self, file: &[u8], variant: u64, starts: &Timetable) -> Answer<bool> {
-        let [yes, ..] = answer(|out| unsafe { vialbluff_check(file.as_ptr(), file.len(), variant, starts, out) })?;
+        let [yes, ..] = answer(|out| unsafe { vialbluff_check(file.as_ptr(), file.len(), narrow(variant), starts, out) })?;
         Ok(yes != 0)
     }
 

@@ -1,0 +1,71 @@
+-- An answer as four numbers: 0 and its values, or the refusal's number and figure.
+use Prim.Native.Nat.{ℕ}
+use mathlib.Core.Bool.{true, false}
+use mathlib.Core.List.{List, [], _∷_}
+use mathlib.Core.Path.{_≡_}
+use Rattle.plan.specs.Refusals.{numberOf, figureOf}
+use Rattle.plan.specs.declared.Refusal.{Refusal}
+use Rattle.read.specs.declared.ReadAnswer.{ReadAnswer}
+use Rattle.read.specs.declared.ReadAnswer.the-variants as Read
+use Rattle.write.specs.Answer.{writeOf}
+use Rattle.write.specs.declared.WriteAnswer.{WriteAnswer}
+use Rattle.write.specs.declared.WriteAnswer.the-variants as Write
+use Rattle.inspect.specs.declared.CheckAnswer.{CheckAnswer}
+use Rattle.inspect.specs.declared.CheckAnswer.the-variants as Check
+use Rattle.listing.specs.Listed.{ListOf}
+use Rattle.listing.specs.Shortest.{BestOf}
+use Rattle.listing.specs.declared.Best.{Best}
+use Rattle.listing.specs.declared.BestAnswer.{BestAnswer}
+use Rattle.listing.specs.declared.BestAnswer.the-variants as Shortest
+use Rattle.listing.specs.declared.CountAnswer.{CountAnswer}
+use Rattle.listing.specs.declared.CountAnswer.the-variants as Count
+use Rattle.listing.specs.declared.ListAnswer.{ListAnswer}
+use Rattle.listing.specs.declared.ListAnswer.the-variants as Listing
+
+abbrev pub refusalCells : Refusal → List ℕ
+refusalCells r = numberOf r ∷ figureOf r ∷ 0 ∷ 0 ∷ []
+
+abbrev pub readCells : ReadAnswer → List ℕ
+readCells (Read.Read acts nodes variants) = 0 ∷ acts ∷ nodes ∷ variants ∷ []
+readCells (Read.Refused r) = refusalCells r
+
+abbrev pub writeCells : WriteAnswer → List ℕ
+writeCells (Write.Written bytes) = 0 ∷ bytes ∷ 0 ∷ 0 ∷ []
+writeCells (Write.Refused r) = refusalCells r
+
+abbrev pub checkCells : CheckAnswer → List ℕ
+checkCells (Check.Checked true) = 0 ∷ 1 ∷ 0 ∷ 0 ∷ []
+checkCells (Check.Checked false) = 0 ∷ 0 ∷ 0 ∷ 0 ∷ []
+checkCells (Check.Refused r) = refusalCells r
+
+abbrev pub countCells : CountAnswer → List ℕ
+countCells (Count.Counted pairs) = 0 ∷ pairs ∷ 0 ∷ 0 ∷ []
+countCells (Count.Refused r) = refusalCells r
+
+abbrev pub listCells : ListAnswer → List ℕ
+listCells (Listing.Listed rows) = 0 ∷ rows ∷ 0 ∷ 0 ∷ []
+listCells (Listing.Refused r) = refusalCells r
+
+abbrev pub bestCells : BestAnswer → List ℕ
+bestCells (Shortest.Found variant makespan count) = 0 ∷ variant ∷ makespan ∷ count ∷ []
+bestCells (Shortest.Refused r) = refusalCells r
+
+-- A refusal leaves the lent starts as they stood.
+abbrev pub startsKept : BestAnswer → List ℕ → List ℕ → List ℕ
+startsKept (Shortest.Found variant makespan count) found before = found
+startsKept (Shortest.Refused r) found before = before
+
+pub record Writes (s : List ℕ) (v : ℕ) (before after out : List ℕ) : Type 0 where
+  pub cells : out ≡ writeCells (writeOf s v before .answer)
+  pub area : after ≡ writeOf s v before .area
+
+pub record Lists (s : List ℕ) (cap : ℕ) (before after out : List ℕ) : Type 0 where
+  pub answer : ListAnswer
+  pub listing : ListOf s cap before answer after
+  pub cells : out ≡ listCells answer
+
+pub record Finds (s : List ℕ) (cap : ℕ) (before after out : List ℕ) : Type 0 where
+  pub best : Best
+  pub finding : BestOf s cap best
+  pub cells : out ≡ bestCells (best .answer)
+  pub starts : after ≡ startsKept (best .answer) (best .timetable .starts) before

@@ -1,0 +1,2 @@
+-- What the exported calls leave in the lent cells.
+pub mod Cells
