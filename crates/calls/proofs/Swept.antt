@@ -21,7 +21,7 @@ use Rattle.tally.proofs.Best.{First, best}
 use Rattle.tally.proofs.Area.{row, rows, rows-below, area-is}
 use Rattle.complete.proofs.Found.{latest}
 use Rattle.sessions.specs.Pairs.{pairCount}
-use Rattle.read.proofs.Accepts.{Valid}
+use Rattle.read.specs.Valid.{Valid}
 use Rattle.listing.specs.Listed.{cellsOf, cellsNeeded, Rows}
 use Rattle.listing.specs.Shortest.{Finds}
 use Rattle.listing.specs.declared.Best.{Best}

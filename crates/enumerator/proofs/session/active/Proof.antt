@@ -1,0 +1,14 @@
+-- `active` is safe and ends.
+use Prim.Native.Nat.{_-_}
+use borrow.Author.Needs.{needs}
+use Rattle.enumerator.proofs.session.active.Statement.{statement}
+use Rattle.enumerator.proofs.session.active.Tie as tie
+
+abbrev Inv-loop : tie.InvT-loop
+Inv-loop relations duration starts n i₀ i = Unit
+
+abbrev μ-loop : tie.MeasureT-loop
+μ-loop relations duration starts n i₀ i = 24 - i
+
+pub active-spec : {M : Type 1} → statement M
+active-spec = tie.close (tie.spec Inv-loop μ-loop (λ c. search needs) (λ c. search needs) (λ c. search needs) (λ c κs. search needs) (λ c. search needs) (λ c. search needs) (λ c. search needs) (λ c. search needs) (λ c. search needs))

@@ -1,0 +1,14 @@
+-- `movable` is safe and ends.
+use Prim.Native.Nat.{_-_}
+use borrow.Author.Needs.{needs}
+use Rattle.enumerator.proofs.session.movable.Statement.{statement}
+use Rattle.enumerator.proofs.session.movable.Tie as tie
+
+abbrev Inv-loop : tie.InvT-loop
+Inv-loop relations duration starts n i start tick₀ tick = Unit
+
+abbrev μ-loop : tie.MeasureT-loop
+μ-loop relations duration starts n i start tick₀ tick = start - tick
+
+pub movable-spec : {M : Type 1} → statement M
+movable-spec = tie.close (tie.spec Inv-loop μ-loop (λ c. search needs) (λ c. search needs) (λ c κs. search needs) (λ c. search needs) (λ c. search needs) (λ c. search needs) (λ c. search needs) (λ c. search needs))

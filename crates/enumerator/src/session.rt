@@ -1,0 +1,152 @@
+// Feasible and active, by definition. A session under way has a start for some of the activities of its variant.
+use crate::relation::AFTER;
+use crate::relation::APART;
+use crate::relation::BEFORE;
+
+// The start of an activity that is absent, or has none yet.
+pub const ABSENT: u16 = 65535;
+
+pub fn wide(n: u16) -> u32 {
+    n as u32
+}
+
+fn end(start: u16, duration: u16) -> u32 {
+    start as u32 + duration as u32
+}
+
+// May a session have both of two activities, by their relation, starts and ends?
+fn agree(relation: u8, start: u32, end: u32, other_start: u32, other_end: u32) -> bool {
+    if relation == BEFORE {
+        return end <= other_start;
+    }
+    if relation == AFTER {
+        return other_end <= start;
+    }
+    if relation == APART {
+        return (end <= other_start) | (other_end <= start);
+    }
+    true
+}
+
+// May activity i start at a tick beside activity j as it stands?
+fn beside<'a>(
+    relations: &'a [u8; 576],
+    duration: &'a [u16; 24],
+    starts: &'a [u16; 24],
+    i: usize,
+    tick: u16,
+    j: usize,
+) -> bool {
+    if 24 <= i {
+        return false;
+    }
+    if 24 <= j {
+        return false;
+    }
+    if starts[j] == ABSENT {
+        return true;
+    }
+    let start = starts[j];
+    agree(
+        relations[i * 24 + j],
+        wide(tick),
+        end(tick, duration[i]),
+        wide(start),
+        end(start, duration[j]),
+    )
+}
+
+// May activity i start at a tick, the others of the first n as they stand?
+pub fn fits<'a>(
+    relations: &'a [u8; 576],
+    duration: &'a [u16; 24],
+    starts: &'a [u16; 24],
+    n: usize,
+    i: usize,
+    tick: u16,
+) -> bool {
+    for j in 0..n {
+        if !beside(relations, duration, starts, i, tick, j) {
+            return false;
+        }
+    }
+    true
+}
+
+// May activity i start sooner, the others unchanged?
+fn movable<'a>(
+    relations: &'a [u8; 576],
+    duration: &'a [u16; 24],
+    starts: &'a [u16; 24],
+    n: usize,
+    i: usize,
+    start: u16,
+) -> bool {
+    if start == ABSENT {
+        return false;
+    }
+    for tick in 0..start {
+        if fits(relations, duration, starts, n, i, tick) {
+            return true;
+        }
+    }
+    false
+}
+
+pub fn active<'a>(
+    relations: &'a [u8; 576],
+    duration: &'a [u16; 24],
+    starts: &'a [u16; 24],
+    n: usize,
+) -> bool {
+    for i in 0usize..24 {
+        if movable(relations, duration, starts, n, i, starts[i]) {
+            return false;
+        }
+    }
+    true
+}
+
+// The earliest start, the latest end, and the sum of the starts, which is the most ticks that `active` tries.
+pub struct Span {
+    pub first: u32,
+    pub last: u32,
+    pub ticks: u32,
+}
+
+fn widened(s: Span, start: u16, duration: u16) -> Span {
+    if start == ABSENT {
+        return s;
+    }
+    let mut r = s;
+    let first = wide(start);
+    let last = end(start, duration);
+    r.ticks = std::num::wrapping_add_u32(s.ticks, first);
+    if first < s.first {
+        r.first = first;
+    }
+    if s.last < last {
+        r.last = last;
+    }
+    r
+}
+
+pub fn spanned<'a>(duration: &'a [u16; 24], starts: &'a [u16; 24]) -> Span {
+    let mut s = Span {
+        first: 65535,
+        last: 0,
+        ticks: 0,
+    };
+    for i in 0usize..24 {
+        s = widened(s, starts[i], duration[i]);
+    }
+    s
+}
+
+pub fn makespan(s: Span) -> u32 {
+    if s.first < s.last {
+        s.last - s.first
+    } else {
+        0
+    }
+}

@@ -1,0 +1,74 @@
+// Small valid plan files, each made of a seed: one to six activities, short durations, and a term of few variants.
+ghost use Prim.Native.Nat.{_≤_};
+ghost use Rattle.generator.specs.Text.{Counts};
+
+mod random;
+mod term;
+mod text;
+
+use random::below;
+use random::drawn;
+use term::Term;
+
+// The devices of a plan: one, a few, or the most there may be.
+fn devices(state: u64) -> u8 {
+    let r = state % 4;
+    if r == 3 { 16 } else { (r + 1) as u8 }
+}
+
+// The longest duration is shorter where there are more activities.
+fn longest(acts: u8) -> u8
+    ensures { λ r. ⌜ r ≤ 4 ⌝ }
+{
+    if acts <= 3 {
+        return 4;
+    }
+    if acts <= 5 { 3 } else { 2 }
+}
+
+// Some plans have equal durations.
+fn duration(state: u64, first: u64, acts: u8) -> u8 {
+    let most = longest(acts);
+    if first % 3 == 0 {
+        return below(first / 3, most) + 1;
+    }
+    below(state, most) + 1
+}
+
+fn activities(out: &mut [u8], start: usize, seed: u64, acts: u8, res: u8) -> usize {
+    let mut at = start;
+    let mut state = seed;
+    for i in 0..acts {
+        let device = below(state, res);
+        at = text::activity(out, at, device, duration(state / 64, seed / 4096, acts));
+        state = drawn(state);
+    }
+    at
+}
+
+fn nodes(out: &mut [u8], start: usize, t: Term) -> usize
+    ensures { λ r. ⌜ Counts r (now (out .exit)) ⌝ }
+{
+    let mut at = text::line(out, start, b"nodes=", t.nodes);
+    for i in 0..t.nodes {
+        at = text::node(out, at, term::letter(t, i), term::number(t, i));
+    }
+    at
+}
+
+// Writes the plan of a seed, and returns its length. What does not fit the area is left out; 1024 bytes are enough.
+pub fn generate(seed: u64, out: &mut [u8]) -> usize
+    ensures { λ r. ⌜ Counts r (now (out .exit)) ⌝ }
+{
+    let first = drawn(drawn(random::seeded(seed)));
+    let second = drawn(first);
+    let third = drawn(second);
+    let res = devices(first);
+    let acts = below(second, 6) + 1;
+    let mut at = text::line(out, 0, b"plan=", 1);
+    at = text::line(out, at, b"res=", res);
+    at = text::line(out, at, b"acts=", acts);
+    at = activities(out, at, third, acts, res);
+    let apart = drawn(third / 2 + 1);
+    nodes(out, at, term::grown(apart, acts))
+}
