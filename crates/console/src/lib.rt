@@ -4,7 +4,10 @@ ghost use lib.ListN.{length};
 ghost use Rattle.io.specs.Counts.{Counts};
 use libc::STDIN_FILENO;
 use libc::STDOUT_FILENO;
+use listing::Best;
+use listing::BestAnswer;
 use plan::Refusal;
+use timetable::Timetable;
 
 // What was read. Where a read failed, the length is that of what came before.
 pub struct Input {
@@ -81,5 +84,42 @@ pub fn put_reason(refusal: Refusal) -> bool {
         Refusal::AreaTooShort(_) => put(
             b"reason=The answer needs as much room as the figure says, which is more than there is.\n",
         ),
+    }
+}
+
+// The start of an activity that is present.
+fn put_start(activity: usize, start: u16) -> bool {
+    if start == Timetable::MARK {
+        return true;
+    }
+    put(b"start=") && put_number(activity as u64) && put(b",") && put_line(b"", start as u64)
+}
+
+fn put_starts(timetable: Timetable) -> bool {
+    let starts = timetable.starts;
+    let mut i = 0;
+    while i < 24 {
+        if !put_start(i, starts[i]) {
+            return false;
+        }
+        i += 1;
+    }
+    true
+}
+
+// A shortest session, or the refusal.
+pub fn put_best(best: Best) -> bool {
+    let answer = best.answer;
+    let timetable = best.timetable;
+    match answer {
+        BestAnswer::Found {
+            variant,
+            makespan,
+            count,
+        } => put_line(b"variant=", variant)
+            && put_line(b"makespan=", makespan)
+            && put_line(b"count=", count)
+            && put_starts(timetable),
+        BestAnswer::Refused(r) => put_refusal(r),
     }
 }
