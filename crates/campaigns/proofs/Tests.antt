@@ -2,6 +2,7 @@
 use Prim.Native.Nat.{ℕ}
 use mathlib.Core.Bool.{Bool, true, false, false≢true, Bool·beq, _&&_}
 use mathlib.Core.List.{List, [], _∷_}
+use mathlib.Core.Logic.{_⊎_, inl, inr}
 use mathlib.Core.Path.{_≡_, refl, sym, ap, ap₂, _∙_}
 use borrow.Author.Tests.{eqb-true}
 use lib.Dec.{eqb}
@@ -99,17 +100,40 @@ list-same (x ∷ xs) [] e = absurd (false≢true e)
 list-same (x ∷ xs) (y ∷ ys) e =
     ap₂ _∷_ (eqb-true x y (first _ _ e)) (list-same xs ys (second (eqb x y) _ e))
 
+-- Several answers are a number or a refusal: they are compared as such, once.
+abbrev sameEither : ℕ ⊎ Refusal → ℕ ⊎ Refusal → Bool
+sameEither (inl n) (inl m) = eqb n m
+sameEither (inl n) (inr r) = false
+sameEither (inr r) (inl n) = false
+sameEither (inr r) (inr r′) = sameRefusal r r′
+
+either-same : (x y : ℕ ⊎ Refusal) → sameEither x y ≡ true → x ≡ y
+either-same (inl n) (inl m) e = ap inl (eqb-true n m e)
+either-same (inl n) (inr r) e = absurd (false≢true e)
+either-same (inr r) (inl n) e = absurd (false≢true e)
+either-same (inr r) (inr r′) e = ap inr (refusal-same r r′ e)
+
+module _ {A : Type 0} (split : A → ℕ ⊎ Refusal) (join : ℕ ⊎ Refusal → A) (whole : (a : A) → join (split a) ≡ a) where
+  split-same : (a b : A) → sameEither (split a) (split b) ≡ true → a ≡ b
+  split-same a b e = sym (whole a) ∙ ap join (either-same (split a) (split b) e) ∙ whole b
+
+abbrev splitWrite : WriteAnswer → ℕ ⊎ Refusal
+splitWrite (Write.Written n) = inl n
+splitWrite (Write.Refused r) = inr r
+
+abbrev joinWrite : ℕ ⊎ Refusal → WriteAnswer
+joinWrite (inl n) = Write.Written n
+joinWrite (inr r) = Write.Refused r
+
+write-whole : (a : WriteAnswer) → joinWrite (splitWrite a) ≡ a
+write-whole (Write.Written n) = refl
+write-whole (Write.Refused r) = refl
+
 abbrev pub sameWrite : WriteAnswer → WriteAnswer → Bool
-sameWrite (Write.Written n) (Write.Written m) = eqb n m
-sameWrite (Write.Written n) (Write.Refused r) = false
-sameWrite (Write.Refused r) (Write.Written n) = false
-sameWrite (Write.Refused r) (Write.Refused r′) = sameRefusal r r′
+sameWrite a b = sameEither (splitWrite a) (splitWrite b)
 
 write-same : (a b : WriteAnswer) → sameWrite a b ≡ true → a ≡ b
-write-same (Write.Written n) (Write.Written m) e = ap Write.Written (eqb-true n m e)
-write-same (Write.Written n) (Write.Refused r) e = absurd (false≢true e)
-write-same (Write.Refused r) (Write.Written n) e = absurd (false≢true e)
-write-same (Write.Refused r) (Write.Refused r′) e = ap Write.Refused (refusal-same r r′ e)
+write-same = split-same splitWrite joinWrite write-whole
 
 abbrev pub sameOutcome : Outcome → Outcome → Bool
 sameOutcome a b = sameWrite (a .answer) (b .answer) && sameList (a .area) (b .area)
@@ -138,26 +162,38 @@ check-same (Check.Checked a) (Check.Refused r) e = absurd (false≢true e)
 check-same (Check.Refused r) (Check.Checked a) e = absurd (false≢true e)
 check-same (Check.Refused r) (Check.Refused r′) e = ap Check.Refused (refusal-same r r′ e)
 
+abbrev splitCount : CountAnswer → ℕ ⊎ Refusal
+splitCount (Count.Counted n) = inl n
+splitCount (Count.Refused r) = inr r
+
+abbrev joinCount : ℕ ⊎ Refusal → CountAnswer
+joinCount (inl n) = Count.Counted n
+joinCount (inr r) = Count.Refused r
+
+count-whole : (a : CountAnswer) → joinCount (splitCount a) ≡ a
+count-whole (Count.Counted n) = refl
+count-whole (Count.Refused r) = refl
+
 abbrev pub sameCount : CountAnswer → CountAnswer → Bool
-sameCount (Count.Counted n) (Count.Counted m) = eqb n m
-sameCount (Count.Counted n) (Count.Refused r) = false
-sameCount (Count.Refused r) (Count.Counted n) = false
-sameCount (Count.Refused r) (Count.Refused r′) = sameRefusal r r′
+sameCount a b = sameEither (splitCount a) (splitCount b)
 
 pub count-same : (a b : CountAnswer) → sameCount a b ≡ true → a ≡ b
-count-same (Count.Counted n) (Count.Counted m) e = ap Count.Counted (eqb-true n m e)
-count-same (Count.Counted n) (Count.Refused r) e = absurd (false≢true e)
-count-same (Count.Refused r) (Count.Counted n) e = absurd (false≢true e)
-count-same (Count.Refused r) (Count.Refused r′) e = ap Count.Refused (refusal-same r r′ e)
+count-same = split-same splitCount joinCount count-whole
+
+abbrev splitListing : ListAnswer → ℕ ⊎ Refusal
+splitListing (Listing.Listed n) = inl n
+splitListing (Listing.Refused r) = inr r
+
+abbrev joinListing : ℕ ⊎ Refusal → ListAnswer
+joinListing (inl n) = Listing.Listed n
+joinListing (inr r) = Listing.Refused r
+
+listing-whole : (a : ListAnswer) → joinListing (splitListing a) ≡ a
+listing-whole (Listing.Listed n) = refl
+listing-whole (Listing.Refused r) = refl
 
 abbrev pub sameListing : ListAnswer → ListAnswer → Bool
-sameListing (Listing.Listed n) (Listing.Listed m) = eqb n m
-sameListing (Listing.Listed n) (Listing.Refused r) = false
-sameListing (Listing.Refused r) (Listing.Listed n) = false
-sameListing (Listing.Refused r) (Listing.Refused r′) = sameRefusal r r′
+sameListing a b = sameEither (splitListing a) (splitListing b)
 
 pub listing-same : (a b : ListAnswer) → sameListing a b ≡ true → a ≡ b
-listing-same (Listing.Listed n) (Listing.Listed m) e = ap Listing.Listed (eqb-true n m e)
-listing-same (Listing.Listed n) (Listing.Refused r) e = absurd (false≢true e)
-listing-same (Listing.Refused r) (Listing.Listed n) e = absurd (false≢true e)
-listing-same (Listing.Refused r) (Listing.Refused r′) e = ap Listing.Refused (refusal-same r r′ e)
+listing-same = split-same splitListing joinListing listing-whole

@@ -4,7 +4,7 @@ use mathlib.Core.Bool.{Bool, true, false, _&&_, _||_}
 use mathlib.Core.List.{List, [], _∷_}
 use mathlib.Core.Path.{_≡_}
 use lib.Dec.{leb, ltb, eqb}
-use lib.ListN.{length, take}
+use lib.ListN.{length, take, replicate}
 use Rattle.plan.specs.Limits.{isResourceCount, isActCount, isDuration, isNodeCount, isChildCount}
 use Rattle.plan.specs.declared.Tables.{Tables}
 
@@ -82,6 +82,19 @@ planOf t =
       resources = t .resources;
       activities = activitiesOf (take (t .acts) (t .resource)) (take (t .acts) (t .duration));
       nodes = nodesOf (take (t .nodes) (t .letter)) (take (t .nodes) (t .number));
+    }
+
+-- The tables of no plan: every count and every entry 0.
+abbrev pub noTables : Tables
+noTables =
+    record {
+      resources = 0;
+      acts = 0;
+      resource = replicate 24 0;
+      duration = replicate 24 0;
+      nodes = 0;
+      letter = replicate 64 0;
+      number = replicate 64 0;
     }
 
 -- The arrays of the tables have their lengths.

@@ -1,6 +1,7 @@
 // A plan as the program keeps it, and the refusals of every call.
 ghost use mathlib.Core.Path.{_≡_};
 ghost use Rattle.plan.specs.Refusals.{numberOf, figureOf};
+ghost use Rattle.plan.specs.Plan.{noTables};
 
 // Why a call turns its input back. `numberOf` and `figureOf` give the paper's number and figure of each case.
 pub enum Refusal {
@@ -65,7 +66,9 @@ impl Tables {
     pub const NODES: usize = 64;
 
     // The tables of no plan: every count and every entry 0.
-    pub fn empty() -> Tables {
+    pub fn empty() -> Tables
+        ensures { λ r. ⌜ r ≡ noTables ⌝ }
+    {
         Tables {
             resources: 0,
             acts: 0,
