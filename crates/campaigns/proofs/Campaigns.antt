@@ -27,13 +27,14 @@ use Rattle.sessions.specs.Timetable.{isSession, isMarked}
 use Rattle.write.specs.Answer.{writeOf}
 use Rattle.write.specs.declared.WriteAnswer.the-variants.{Written}
 use Rattle.inspect.specs.Answer.{checkOf}
-use Rattle.campaigns.specs.Table.{Row, reads, writes, checks, counts, lists, spans, Holds, table, lent}
+use Rattle.campaigns.specs.Table.{Row, reads, writes, checks, counts, lists, spans, finds, stops, Holds, table, lent}
 use Rattle.schedule.specs.Sessions.{gather}
 use Rattle.sets.specs.Sets
 use Rattle.sets.specs.Sets.{has, meet}
 use Rattle.scan.proofs.Model.{leastBelow, ready, earliest, finish, isOpen, keyOf, key, isChoice, freeze, branches, leaves, root, scanned, startOf, starts}
 use Rattle.seam.proofs.Posed.{setOf, problemOf, presentOf}
 use Rattle.campaigns.proofs.Searched.{total, countModel, count-is, listModel, list-is, spansModel, hasModel, spans-is}
+use Rattle.campaigns.proofs.Shortest.{shown, refused, sameShown, shown-same, AnswersAs, bestModel, best-is, shortestSpan, shortestVariants}
 use Rattle.campaigns.proofs.Tests.{sameList, list-same, sameCount, count-same, sameListing, listing-same, sameRead, read-same, sameOutcome, outcome-same, sameCheck, check-same}
 
 abbrev test : Row → Bool
@@ -44,6 +45,8 @@ test (checks s v starts answer) = sameCheck (checkOf s v starts) answer
 test (counts s cap answer) = sameCount (countModel s cap) answer
 test (lists s cap cells answer) = sameListing (listModel s cap cells) answer
 test (spans s v makespans) = hasModel s v && sameList (spansModel s v) makespans
+test (finds s cap variants span count) = sameShown (bestModel s cap) (shown variants span count)
+test (stops s cap r) = sameShown (bestModel s cap) (refused r)
 
 test-holds : (row : Row) → test row ≡ true → Holds row
 test-holds (reads s answer) e = read-by s ∙ read-same (readBy s) answer e
@@ -57,9 +60,13 @@ test-holds (lists s cap cells answer) e =
     ∙ listing-same (listModel s cap cells) answer e
 test-holds (spans s v makespans) e =
     spans-is s v makespans (first (hasModel s v) _ e) (list-same (spansModel s v) makespans (second (hasModel s v) _ e))
+test-holds (finds s cap variants span count) e =
+    λ best given. subst (λ x. AnswersAs x best) (shown-same (bestModel s cap) _ e) (best-is s cap best given)
+test-holds (stops s cap r) e =
+    λ best given. subst (λ x. AnswersAs x best) (shown-same (bestModel s cap) _ e) (best-is s cap best given)
 
 all-pass : every test table ≡ true
-unfolding table readBy parse planLines aLine theLines theEnd found digits isValue decimal termOf forest place size firsts others activities member some-of count clash share writeOf checkOf judge twice repeats variants paired variantCount written variantPlan dissolved joined text actLines nodeLines filled Lines.written nodes isSession isMarked feasible placed inOrder withinCapacity load latestEnd everyBelow sumBelow maxBelow projectOf precedes countModel listModel spansModel hasModel total problemOf presentOf setOf gather scanned leaves branches root freeze isChoice key keyOf leastBelow isOpen finish earliest ready Sets.size has meet starts startOf
+unfolding table readBy parse planLines aLine theLines theEnd found digits isValue decimal termOf forest place size firsts others activities member some-of count clash share writeOf checkOf judge twice repeats variants paired variantCount written variantPlan dissolved joined text actLines nodeLines filled Lines.written nodes isSession isMarked feasible placed inOrder withinCapacity load latestEnd everyBelow sumBelow maxBelow projectOf precedes countModel listModel spansModel hasModel bestModel shortestSpan shortestVariants total problemOf presentOf setOf gather scanned leaves branches root freeze isChoice key keyOf leastBelow isOpen finish earliest ready Sets.size has meet starts startOf
 all-pass = refl
 
 every-of : (xs : List Row) → every test xs ≡ true → (row : Row) → List·Memᴰ row xs → test row ≡ true

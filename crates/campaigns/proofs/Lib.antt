@@ -1,4 +1,5 @@
 -- The worked campaigns, proved.
 pub mod Tests
 pub mod Searched
+pub mod Shortest
 pub mod Campaigns

@@ -37,7 +37,7 @@ use Rattle.campaigns.specs.Table.{Spans}
 unfoldable pub total : Plan → Term → ℕ
 total p t = length (allRows p t (λ v. problemOf p (variantAt t v)) (λ v. presentOf (variantAt t v)))
 
-total-is : (p : Plan) (t : Term) → Valid p t → pairCount p t ≡ total p t
+pub total-is : (p : Plan) (t : Term) → Valid p t → pairCount p t ≡ total p t
 unfolding total
 total-is p t valid =
     sym (rows-count p t valid (λ v. problemOf p (variantAt t v)) (λ v. presentOf (variantAt t v)) (λ v l. posed p t v (chosen p t v valid l)))

@@ -3,10 +3,11 @@ use Prim.Native.Char.{code}
 use Prim.Native.Nat.{ℕ, zero, suc, _-_, _<_}
 use Prim.Native.String.{String}
 use mathlib.Core.Bool.{true, false}
-use mathlib.Core.List.{List, [], _∷_, _++_, map, Perm}
+use mathlib.Core.List.{List, [], _∷_, _++_, map, List·Memᴰ, Perm}
 use mathlib.Core.Path.{_≡_}
 use lib.Dec.{eqb}
 use lib.ListN.{length, drop, replicate}
+use Rattle.plan.specs.declared.Refusal.{Refusal}
 use Rattle.plan.specs.declared.Refusal.the-variants.{Range, Form, Twice, TooManyVariants, NoSuchVariant, OverCap, AreaTooShort}
 use Rattle.plan.specs.Plan.{Plan}
 use Rattle.term.specs.Term.{Term}
@@ -17,6 +18,10 @@ use Rattle.variant.specs.Project.{projectOf, variantAt}
 use Rattle.read.specs.Judge.{accepts, judge}
 use Rattle.listing.specs.Count.{countOf}
 use Rattle.listing.specs.Listed.{ListOf}
+use Rattle.listing.specs.Shortest.{BestOf}
+use Rattle.listing.specs.declared.Best.{Best}
+use Rattle.listing.specs.declared.BestAnswer.the-variants.{Found}
+use Rattle.listing.specs.declared.BestAnswer.the-variants as BestAnswers
 use Rattle.listing.specs.declared.CountAnswer.{CountAnswer}
 use Rattle.listing.specs.declared.CountAnswer.the-variants.{Counted}
 use Rattle.listing.specs.declared.CountAnswer.the-variants as CountAnswers
@@ -61,6 +66,9 @@ pub data Row : Type 0 where
   counts : List ℕ → ℕ → CountAnswer → Row
   lists : List ℕ → ℕ → ℕ → ListAnswer → Row
   spans : List ℕ → ℕ → List ℕ → Row
+  -- BEST: the variants that have a shortest session (which of them is open), its makespan and COUNT's number
+  finds : List ℕ → ℕ → List ℕ → ℕ → ℕ → Row
+  stops : List ℕ → ℕ → Refusal → Row
 
 -- The makespans of the active sessions of variant v, in some order.
 pub record Spans (s : List ℕ) (v : ℕ) (makespans : List ℕ) : Type 0 where
@@ -83,10 +91,28 @@ Holds (counts s cap answer) = countOf s cap ≡ answer
 Holds (lists s cap cells answer) =
     (before after : List ℕ) (given : ListAnswer) → length before ≡ cells → ListOf s cap before given after → given ≡ answer
 Holds (spans s v makespans) = Spans s v makespans
+Holds (finds s cap variants span count) =
+    (best : Best) → BestOf s cap best → (v : ℕ) × List·Memᴰ v variants × (best .answer ≡ Found v span count)
+Holds (stops s cap r) = (best : Best) → BestOf s cap best → best .answer ≡ BestAnswers.Refused r
 
 abbrev pub dotTest : List ℕ
 dotTest =
     file "plan=1/res=3/acts=5/act=0,4/act=1,2/act=1,3/act=2,5/act=1,6/nodes=9/node=s,2/node=x,2/node=a,0/node=p,2/node=a,1/node=a,2/node=p,2/node=a,3/node=a,4"
+
+abbrev pub twiceUnderX : List ℕ
+twiceUnderX = file "plan=1/res=1/acts=1/act=0,1/nodes=3/node=x,2/node=a,0/node=a,0"
+
+abbrev pub twiceUnderP : List ℕ
+twiceUnderP = file "plan=1/res=1/acts=1/act=0,1/nodes=3/node=p,2/node=a,0/node=a,0"
+
+abbrev pub twoContested : List ℕ
+twoContested = file "plan=1/res=2/acts=4/act=0,1/act=0,1/act=1,1/act=1,1/nodes=5/node=p,4/node=a,0/node=a,1/node=a,2/node=a,3"
+
+abbrev pub freeDeviceWaits : List ℕ
+freeDeviceWaits = file "plan=1/res=2/acts=4/act=0,10/act=1,1/act=0,1/act=1,20/nodes=6/node=p,2/node=a,0/node=s,3/node=a,1/node=a,2/node=a,3"
+
+abbrev pub example2 : List ℕ
+example2 = file "plan=1/res=4/acts=8/act=0,1/act=1,2/act=2,2/act=1,1/act=0,1/act=0,2/act=3,1/act=1,2/nodes=13/node=p,4/node=s,2/node=p,2/node=a,0/node=a,1/node=a,2/node=s,2/node=a,3/node=a,4/node=a,5/node=s,2/node=a,6/node=a,7"
 
 unfoldable pub table : List Row
 table =
@@ -98,8 +124,8 @@ table =
     ∷ reads (file "plan=1/res=1/acts=1/act=0,0/nodes=1/node=a,0") (Refused (Range 4))
     ∷ reads (file "plan=1/res=1/acts=1/act=0,04/nodes=1/node=a,0") (Refused (Form 4))
     -- Activity 0 twice, under an x and under a p.
-    ∷ reads (file "plan=1/res=1/acts=1/act=0,1/nodes=3/node=x,2/node=a,0/node=a,0") (Read 1 3 2)
-    ∷ reads (file "plan=1/res=1/acts=1/act=0,1/nodes=3/node=p,2/node=a,0/node=a,0") (Refused Twice)
+    ∷ reads twiceUnderX (Read 1 3 2)
+    ∷ reads twiceUnderP (Refused Twice)
     -- p over twelve x of two distinct activities, and with one of an x's two activities named there a second time.
     ∷ reads (file "plan=1/res=1/acts=24" ++ (times 24 (file "act=0,1") ++ (file "nodes=37/node=p,12/node=x,2/node=a,0/node=a,1" ++ (file "node=x,2/node=a,2/node=a,3/node=x,2/node=a,4/node=a,5/node=x,2/node=a,6/node=a,7/node=x,2/node=a,8/node=a,9/node=x,2/node=a,10/node=a,11/node=x,2/node=a,12/node=a,13" ++ file "node=x,2/node=a,14/node=a,15/node=x,2/node=a,16/node=a,17/node=x,2/node=a,18/node=a,19/node=x,2/node=a,20/node=a,21/node=x,2/node=a,22/node=a,23")))) (Read 24 37 4096)
     ∷ reads (file "plan=1/res=1/acts=24" ++ (times 24 (file "act=0,1") ++ (file "nodes=38/node=p,12/node=x,3/node=a,0/node=a,1/node=a,0" ++ (file "node=x,2/node=a,2/node=a,3/node=x,2/node=a,4/node=a,5/node=x,2/node=a,6/node=a,7/node=x,2/node=a,8/node=a,9/node=x,2/node=a,10/node=a,11/node=x,2/node=a,12/node=a,13" ++ file "node=x,2/node=a,14/node=a,15/node=x,2/node=a,16/node=a,17/node=x,2/node=a,18/node=a,19/node=x,2/node=a,20/node=a,21/node=x,2/node=a,22/node=a,23")))) (Refused TooManyVariants)
@@ -130,9 +156,21 @@ table =
     ∷ lists dotTest 3 18 (Listed 3)
     ∷ lists dotTest 3 17 (ListAnswers.Refused (AreaTooShort 18))
     -- Activity 0 under both picks of an x counts twice.
-    ∷ counts (file "plan=1/res=1/acts=1/act=0,1/nodes=3/node=x,2/node=a,0/node=a,0") 9 (Counted 2)
+    ∷ counts twiceUnderX 9 (Counted 2)
     -- Two contested devices on one tick; a free device that has to wait; document 000, Example 2, second term.
-    ∷ spans (file "plan=1/res=2/acts=4/act=0,1/act=0,1/act=1,1/act=1,1/nodes=5/node=p,4/node=a,0/node=a,1/node=a,2/node=a,3") 0 (2 ∷ 2 ∷ 2 ∷ 2 ∷ [])
-    ∷ spans (file "plan=1/res=2/acts=4/act=0,10/act=1,1/act=0,1/act=1,20/nodes=6/node=p,2/node=a,0/node=s,3/node=a,1/node=a,2/node=a,3") 0 (31 ∷ 22 ∷ [])
-    ∷ spans (file "plan=1/res=4/acts=8/act=0,1/act=1,2/act=2,2/act=1,1/act=0,1/act=0,2/act=3,1/act=1,2/nodes=13/node=p,4/node=s,2/node=p,2/node=a,0/node=a,1/node=a,2/node=s,2/node=a,3/node=a,4/node=a,5/node=s,2/node=a,6/node=a,7") 0 (5 ∷ 6 ∷ 5 ∷ 7 ∷ 5 ∷ 7 ∷ 5 ∷ 6 ∷ 5 ∷ 7 ∷ 6 ∷ 7 ∷ [])
+    ∷ spans twoContested 0 (2 ∷ 2 ∷ 2 ∷ 2 ∷ [])
+    ∷ spans freeDeviceWaits 0 (31 ∷ 22 ∷ [])
+    ∷ spans example2 0 (5 ∷ 6 ∷ 5 ∷ 7 ∷ 5 ∷ 7 ∷ 5 ∷ 6 ∷ 5 ∷ 7 ∷ 6 ∷ 7 ∷ [])
+    -- BEST. The dot test with the program's cap, and caps on both sides of the number of its sessions.
+    ∷ finds dotTest 1000000 (0 ∷ []) 10 3
+    ∷ finds dotTest 3 (0 ∷ []) 10 3
+    ∷ stops dotTest 2 OverCap
+    ∷ stops dotTest 0 OverCap
+    -- Both variants are shortest; a plan that the reader turns back.
+    ∷ finds twiceUnderX 1000000 (0 ∷ 1 ∷ []) 1 2
+    ∷ stops twiceUnderP 1000000 Twice
+    -- Two contested devices on one tick; 22 is missed if a free device never waits; document 000, Example 2, second term.
+    ∷ finds twoContested 1000000 (0 ∷ []) 2 4
+    ∷ finds freeDeviceWaits 1000000 (0 ∷ []) 22 2
+    ∷ finds example2 1000000 (0 ∷ []) 5 12
     ∷ []

@@ -3,3 +3,4 @@ pub mod Nodes
 pub mod Joined
 pub mod Places
 pub mod Whole
+pub mod Absent

@@ -1,2 +1,3 @@
 -- The model of the search.
 pub mod Model
+pub mod Forced

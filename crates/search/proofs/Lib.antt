@@ -1,6 +1,13 @@
--- What the proofs of the search share.
-pub mod Members
+-- What the proofs of the search share: the columns of its table, the loops over sets, a candidate and the node below it,
+-- the branches of a node, what needs no branch, rows, and the root.
+pub mod Columns
+pub mod Parts
 pub mod Folds
-pub mod Rows
+pub mod Turns
+pub mod Candidate
+pub mod Child
+pub mod Stored
 pub mod Branches
+pub mod Settled
+pub mod Rows
 pub mod Entry

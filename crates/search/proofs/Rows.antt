@@ -1,35 +1,27 @@
--- The starts of a schedule as the program writes them: one store at a time, and as a row in its stretch of the area.
-use Prim.Native.Nat.{ℕ, zero, suc, _+_, _-_, _*_, _^_, _≤_, _<_, max}
+-- The starts of a schedule as the program writes them: one store at a time, as a row in its stretch of the area, and in the
+-- cells of the tally.
+use Prim.Native.Nat.{ℕ, zero, suc, _+_, _-_, _*_, _/_, _^_, _≤_, _<_}
 use native.Mathlib.Nat.{not-suc-le-zero, le-trans, le-of-lt, mul-le-mul-left, mul-le-mul-right}
-use native.Mathlib.Decide.{le-ind}
+use native.Mathlib.Decide.{le-ind, ℕ-discrete}
 use native.Mathlib.Numerals.{add-one, one-add}
 use native.Mathlib.Omega.{arith}
 use mathlib.Core.List.{List, [], _∷_, _++_, append-assoc, append-nil}
+use mathlib.Core.Logic.{by-cases}
 use mathlib.Core.Path.{_≡_, refl, sym, ap, ap₂, _∙_}
-use lib.ListN.{length, getD, set, take, drop, length-append, length-drop, drop-of-length-le}
-use lib.Seq.{paste, take-suc-set, take-append-le, take-all, drop-drop}
-use borrow.Author.Tests.{le-leb, lt-leb, lt-ltb, le-ltb}
-use Rattle.schedule.specs.Below.{maxBelow}
+use lib.ListN.{length, getD, set, take, drop, length-append, length-drop, length-set, drop-of-length-le}
+use lib.Seq.{paste, paste-suc, take-suc, take-suc-set, take-append-le, take-all, drop-drop, getD-take, getD-set-other, getD-at, getD-append-add, length-take-le}
+use borrow.Author.Tests.{le-leb, lt-leb, lt-ltb, le-ltb, eq-eqb, ne-eqb}
 use Rattle.schedule.specs.Sessions.{gather}
-use Rattle.scan.proofs.Model.{Problem, startOf, starts}
+use Rattle.scan.proofs.Model.{Problem, width, devices, startOf, starts}
 use Rattle.timetable.specs.Mark.{places}
-use Rattle.search.specs.Seen.{Kept, placed, rowOf, settingOf, latestEnd, IsTally, tallyOf, keptOf, better, counted}
-use Rattle.search.specs.declared.Tally.{Tally}
-
--- ---- the latest end
-
-pub max-next : (f : ℕ → ℕ) (i a x : ℕ) → a ≡ maxBelow i f → x ≡ max a (f i) → x ≡ maxBelow (i + 1) f
-unfolding maxBelow
-max-next f i a x so-far new = new ∙ ap (λ (y : ℕ). max y (f i)) so-far ∙ sym (ap (λ (k : ℕ). maxBelow k f) (add-one i))
-
--- Where f is 0 from n on, no more numbers are needed.
-pub max-blank : (f : ℕ → ℕ) (n m : ℕ) → ((j : ℕ) → n ≤ j → f j ≡ 0) → n ≤ m → maxBelow m f ≡ maxBelow n f
-unfolding maxBelow
-max-blank f n m blank l = le-ind (λ k. maxBelow k f ≡ maxBelow n f) refl (λ k h e. ap (max (maxBelow k f)) (blank k h) ∙ omega (arith, e)) m l
+use Rattle.network.specs.Network.{workAt, variantOf, actsOf}
+use Rattle.search.specs.Tables.{problemOf}
+use Rattle.search.specs.Seen.{Setting, placed, rowOf, settingIn, latestEnd, IsTally, tallyOf, keptOf, better, seen, counted}
+use Rattle.search.proofs.Columns.{duration-at}
 
 -- ---- starts
 
-pub starts-next : (p : Problem) (i : ℕ) (ends : List ℕ)
+starts-next : (p : Problem) (i : ℕ) (ends : List ℕ)
     → starts p (i + 1) ends ≡ starts p i ends ++ (startOf (getD ends i 0) (p .duration i) ∷ [])
 unfolding starts gather
 starts-next p i ends = ap (λ (k : ℕ). starts p k ends) (add-one i)
@@ -40,7 +32,7 @@ length-starts p zero ends = refl
 length-starts p (suc n) ends =
     length-append (starts p n ends) (startOf (getD ends n 0) (p .duration n) ∷ []) ∙ ap (_+ 1) (length-starts p n ends) ∙ add-one n
 
-pub take-starts : (p : Problem) (n m : ℕ) (ends : List ℕ) → n ≤ m → take n (starts p m ends) ≡ starts p n ends
+take-starts : (p : Problem) (n m : ℕ) (ends : List ℕ) → n ≤ m → take n (starts p m ends) ≡ starts p n ends
 unfolding starts gather
 take-starts p n m ends l =
     le-ind
@@ -50,23 +42,48 @@ take-starts p n m ends l =
     m
     l
 
--- One more start is stored.
-pub store-start : (p : Problem) (ends l : List ℕ) (i x : ℕ) → i < length l → x ≡ startOf (getD ends i 0) (p .duration i)
-    → take i l ≡ starts p i ends → take (i + 1) (set l i x) ≡ starts p (i + 1) ends
-store-start p ends l i x h new so-far =
-    ap (λ (k : ℕ). take k (set l i x)) (add-one i)
-    ∙ take-suc-set l i x h
-    ∙ ap₂ (λ (xs : List ℕ) (y : ℕ). xs ++ (y ∷ [])) so-far new
-    ∙ sym (starts-next p i ends)
+pub start-at : (p : Problem) (n i : ℕ) (ends : List ℕ) → i < n → getD (starts p n ends) i 0 ≡ startOf (getD ends i 0) (p .duration i)
+start-at p n i ends h =
+    sym (getD-take (i + 1) (starts p n ends) i 0 (omega arith))
+    ∙ ap (λ (l : List ℕ). getD l i 0) (take-starts p (i + 1) n ends (omega arith) ∙ starts-next p i ends)
+    ∙ getD-at (starts p i ends) (startOf (getD ends i 0) (p .duration i)) [] 0 i (length-starts p i ends)
+
+start-below : (end d : ℕ) → end < 2 ^ 16 → startOf end d < 2 ^ 16
+unfolding startOf
+start-below end d h =
+    by-cases
+    (ℕ-discrete end 0)
+    (λ e. rw (eq-eqb end 0 e) (omega arith))
+    (λ ne. rw (ne-eqb end 0 ne) (omega arith))
+
+-- What the code stores is the start that is due.
+pub stored : (t ends : List ℕ) (n i x : ℕ) → i < n → i < width → x ≡ startOf (getD ends i 0) (workAt t i / devices)
+    → x ≡ getD (starts (problemOf t) n ends) i 0
+stored t ends n i x h low new =
+    new ∙ ap (startOf (getD ends i 0)) (sym (duration-at t i low)) ∙ sym (start-at (problemOf t) n i ends h)
+
+-- One more start is copied to its place.
+pub one-more : (l₀ s l : List ℕ) (at i x : ℕ) → at + i < length l₀ → i < length s → x ≡ getD s i 0 → l ≡ paste l₀ at s i
+    → set l (at + i) x ≡ paste l₀ at s (i + 1)
+one-more l₀ s l at i x h k new so-far =
+    ap₂ (λ (r : List ℕ) (y : ℕ). set r (at + i) y) so-far new ∙ paste-suc l₀ at s i 0 h k ∙ ap (paste l₀ at s) (sym (add-one i))
 
 -- ---- rows
 
 -- The first cell is stored, then n starts are copied behind it.
-pub row-written : (row s : List ℕ) (x n : ℕ) → 0 < length row → paste (set row 0 x) 1 s n ≡ (x ∷ take n s) ++ drop (n + 1) row
+row-written : (row s : List ℕ) (x n : ℕ) → 0 < length row → paste (set row 0 x) 1 s n ≡ (x ∷ take n s) ++ drop (n + 1) row
 row-written [] s x n h = absurd (not-suc-le-zero h)
 row-written (y ∷ ys) s x n h = rw (one-add, add-one)
 
-pub placed-fits : (area row rest : List ℕ) (at : ℕ) → at + length row ≤ length area → rest ≡ row ++ drop (length row) (drop at area)
+pub row-done : (t ends row : List ℕ) (n : ℕ) → n ≡ actsOf t → 0 < length row
+    → paste (set row 0 (variantOf t)) 1 (starts (problemOf t) n ends) n ≡ rowOf (problemOf t) (settingIn t) ends ++ drop (actsOf t + 1) row
+unfolding rowOf
+row-done t ends row n e h =
+    row-written row (starts (problemOf t) n ends) (variantOf t) n h
+    ∙ ap (λ (l : List ℕ). (variantOf t ∷ l) ++ drop (n + 1) row) (take-all n (starts (problemOf t) n ends) (omega (arith, length-starts (problemOf t) n ends)))
+    ∙ ap (λ (k : ℕ). (variantOf t ∷ starts (problemOf t) k ends) ++ drop (k + 1) row) e
+
+placed-fits : (area row rest : List ℕ) (at : ℕ) → at + length row ≤ length area → rest ≡ row ++ drop (length row) (drop at area)
     → take at area ++ rest ≡ placed area at row
 unfolding placed
 placed-fits area row rest at h e =
@@ -89,14 +106,9 @@ row-placed area row part at n h e back =
     placed-fits area row (part ++ drop (length area - at) (drop at area)) at (omega arith)
     (ap (part ++_) none ∙ append-nil part ∙ back ∙ ap₂ (λ (k : ℕ) (xs : List ℕ). row ++ drop k xs) (sym e) whole)
 
-module _ (p : Problem) (variant acts cap : ℕ) (ends : List ℕ) where
-  pub row-of : (s : List ℕ) → acts ≤ places → s ≡ starts p places ends → variant ∷ take acts s ≡ rowOf p (settingOf variant acts cap) ends
-  unfolding rowOf
-  row-of s l e = ap (variant ∷_) (ap (take acts) e ∙ take-starts p acts places ends l)
-
-  pub row-length : length (rowOf p (settingOf variant acts cap) ends) ≡ acts + 1
-  unfolding rowOf
-  row-length = ap suc (length-starts p acts ends) ∙ sym (add-one acts)
+pub row-length : (p : Problem) (q : Setting) (ends : List ℕ) → length (rowOf p q ends) ≡ q .acts + 1
+unfolding rowOf
+row-length p q ends = ap suc (length-starts p (q .acts) ends) ∙ sym (add-one (q .acts))
 
 -- Where the next row starts.
 pub row-at : (count acts : ℕ) → count < 2 ^ 32 → acts ≤ places → count * (acts + 1) ≤ 2 ^ 32 * 25
@@ -106,39 +118,91 @@ row-at count acts h l =
 
 -- ---- the tally
 
-three : (P : List ℕ → Type 0) → ((x y z : ℕ) → P (x ∷ y ∷ z ∷ [])) → (cells : List ℕ) → IsTally cells → P cells
-three P f [] e = absurd (omega arith)
-three P f (a ∷ []) e = absurd (omega arith)
-three P f (a ∷ b ∷ []) e = absurd (omega arith)
-three P f (a ∷ b ∷ c ∷ []) e = f a b c
-three P f (a ∷ b ∷ c ∷ d ∷ l) e = absurd (omega arith)
+three : (P : List ℕ → Type 0) → ((x y z : ℕ) (l : List ℕ) → P (x ∷ y ∷ z ∷ l)) → (cells : List ℕ) → 3 ≤ length cells → P cells
+three P f [] h = absurd (omega arith)
+three P f (a ∷ []) h = absurd (omega arith)
+three P f (a ∷ b ∷ []) h = absurd (omega arith)
+three P f (a ∷ b ∷ c ∷ l) h = f a b c l
+
+-- A store in one of the first three cells.
+pub tally-set : (cells : List ℕ) (k x : ℕ) → k < 3 → IsTally cells → IsTally (set cells k x)
+tally-set cells k x h t =
+    record {
+      size = length-set cells k x ∙ t .size;
+      starts = λ i l. omega (arith, getD-set-other cells k (3 + i) x 0 (λ e. omega arith), t .starts i l);
+    }
+
+-- The starts s behind the first three cells.
+pub all-stored : (cells s cells′ : List ℕ) (n : ℕ) → n ≡ places → length cells ≡ 27 → length s ≡ places → cells′ ≡ paste cells 3 s n
+    → cells′ ≡ take 3 cells ++ s
+all-stored cells s cells′ n all e f back =
+    back
+    ∙ ap (paste cells 3 s) all
+    ∙ ap₂ (λ (x y : List ℕ). take 3 cells ++ x ++ y) (take-all places s (omega arith)) (drop-of-length-le cells {i = 3 + places} (omega arith))
+    ∙ append-nil (take 3 cells ++ s)
+
+pub tally-stored : (cells s cells′ : List ℕ) → length cells ≡ 27 → length s ≡ places → ((i : ℕ) → i < places → getD s i 0 < 2 ^ 16)
+    → cells′ ≡ take 3 cells ++ s → IsTally cells′
+tally-stored cells s cells′ e f low back =
+    let front : length (take 3 cells) ≡ 3 = length-take-le 3 cells (omega arith) in
+    record {
+      size = omega (arith, ap length back, length-append (take 3 cells) s, front);
+      starts = λ i l.
+          let at : getD cells′ (3 + i) 0 ≡ getD s i 0 =
+          ap₂ (λ (x : List ℕ) (k : ℕ). getD x (k + i) 0) back (sym front) ∙ getD-append-add (take 3 cells) s i 0 in
+          omega (arith, at, low i l);
+    }
+
+pub starts-below : (p : Problem) (ends : List ℕ) → ((i : ℕ) → getD ends i 0 < 2 ^ 16) → (i : ℕ) → i < places → getD (starts p places ends) i 0 < 2 ^ 16
+starts-below p ends times i l = omega (arith, start-at p places i ends l, start-below (getD ends i 0) (p .duration i) (times i))
+
+-- One more of the list s is copied.
+pub one-copied : (l s : List ℕ) (i x : ℕ) → i < length l → i < length s → x ≡ getD s i 0 → take i l ≡ take i s → take (i + 1) (set l i x) ≡ take (i + 1) s
+one-copied l s i x h k new so-far =
+    ap (λ (n : ℕ). take n (set l i x)) (add-one i)
+    ∙ take-suc-set l i x h
+    ∙ ap₂ (λ (xs : List ℕ) (y : ℕ). xs ++ (y ∷ [])) so-far new
+    ∙ sym (take-suc s i 0 k)
+    ∙ ap (λ (n : ℕ). take n s) (sym (add-one i))
 
 abbrev more : List ℕ → List ℕ
 more cells = set cells 0 (getD cells 0 0 + 1)
 
-module _ (p : Problem) (variant acts cap : ℕ) (ends best : List ℕ) where
-  pub rank-sooner : (end : ℕ) (s : List ℕ) → end ≡ latestEnd ends → s ≡ starts p places ends
-      → (cells : List ℕ) → IsTally cells → end < getD (set cells 0 (getD cells 0 0 + 1)) 1 0
-      → tallyOf (set (set (set cells 0 (getD cells 0 0 + 1)) 1 end) 2 variant) s ≡ better p (settingOf variant acts cap) (tallyOf cells best) ends
+module _ (p : Problem) (q : Setting) (ends : List ℕ) (end : ℕ) (e : end ≡ latestEnd ends) where
+  pub rank-sooner : (cells cells′ : List ℕ) → IsTally cells → end < getD (set cells 0 (getD cells 0 0 + 1)) 1 0
+      → cells′ ≡ take 3 (set (set (set cells 0 (getD cells 0 0 + 1)) 1 end) 2 (q .variant)) ++ starts p places ends
+      → tallyOf cells′ ≡ better p q (tallyOf cells) ends
   unfolding better
-  rank-sooner end s e t =
-      three
-      (λ cells. end < getD (more cells) 1 0 → tallyOf (set (set (more cells) 1 end) 2 variant) s ≡ better p (settingOf variant acts cap) (tallyOf cells best) ends)
-      (λ x y z l.
-      ap₂ (λ (a : ℕ) (b : List ℕ). tallyOf ((x + 1) ∷ a ∷ variant ∷ []) b) e t
+  rank-sooner cells cells′ t l back =
+      ap tallyOf back
+      ∙ three
+      (λ cells. end < getD (more cells) 1 0 → tallyOf (take 3 (set (set (more cells) 1 end) 2 (q .variant)) ++ starts p places ends) ≡ better p q (tallyOf cells) ends)
+      (λ x y z r l.
+      ap (λ (a : ℕ). tallyOf ((x + 1) ∷ a ∷ q .variant ∷ starts p places ends)) e
       ∙ sym (rw (lt-ltb (latestEnd ends) y (omega arith)) refl))
+      cells
+      (omega (arith, t .size))
+      l
 
-  pub rank-later : (end : ℕ) → end ≡ latestEnd ends
-      → (cells : List ℕ) → IsTally cells → getD (set cells 0 (getD cells 0 0 + 1)) 1 0 ≤ end
-      → tallyOf (set cells 0 (getD cells 0 0 + 1)) best ≡ better p (settingOf variant acts cap) (tallyOf cells best) ends
+  pub rank-later : (cells : List ℕ) → IsTally cells → getD (set cells 0 (getD cells 0 0 + 1)) 1 0 ≤ end
+      → tallyOf (set cells 0 (getD cells 0 0 + 1)) ≡ better p q (tallyOf cells) ends
   unfolding better
-  rank-later end e =
+  rank-later cells t l =
       three
-      (λ cells. getD (more cells) 1 0 ≤ end → tallyOf (more cells) best ≡ better p (settingOf variant acts cap) (tallyOf cells best) ends)
-      (λ x y z l. sym (rw (le-ltb (latestEnd ends) y (omega arith)) refl))
+      (λ cells. getD (more cells) 1 0 ≤ end → tallyOf (more cells) ≡ better p q (tallyOf cells) ends)
+      (λ x y z r l. sym (rw (le-ltb (latestEnd ends) y (omega arith)) refl))
+      cells
+      (omega (arith, t .size))
+      l
 
-  pub kept-counted : (tally : Tally) (area area′ cells : List ℕ) → tally ≡ better p (settingOf variant 0 0) (tallyOf cells best) ends
-      → area′ ≡ placed area (getD cells 0 0 * (acts + 1)) (rowOf p (settingOf variant acts 0) ends)
-      → _≡_ {A = Kept} (record { tally = tally; area = area′ }) (counted p (settingOf variant acts cap) (keptOf cells best area) ends)
-  unfolding counted better rowOf
-  kept-counted tally area area′ cells e f = λ i. record { tally = e i; area = f i }
+module _ (p : Problem) (q : Setting) (ends : List ℕ) where
+  pub seen-counted : (cells cells′ area area′ : List ℕ) → getD cells 0 0 ≤ q .cap
+      → tallyOf cells′ ≡ better p q (tallyOf cells) ends
+      → area′ ≡ placed area (getD cells 0 0 * (q .acts + 1)) (rowOf p q ends)
+      → keptOf cells′ area′ ≡ seen p q (keptOf cells area) ends
+  unfolding seen counted
+  seen-counted cells cells′ area area′ l e f = (λ i. record { tally = e i; area = f i }) ∙ sym (rw (le-leb (getD cells 0 0) (q .cap) l) refl)
+
+  pub seen-enough : (cells area : List ℕ) → q .cap < getD cells 0 0 → keptOf cells area ≡ seen p q (keptOf cells area) ends
+  unfolding seen
+  seen-enough cells area l = sym (rw (lt-leb (getD cells 0 0) (q .cap) l) refl)

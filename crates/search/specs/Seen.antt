@@ -1,6 +1,6 @@
 -- What becomes of each schedule that the search finds: it is counted, kept if it ends sooner than the one kept, and
 -- written as a row where the area has room for it.
-use Prim.Native.Nat.{ℕ, suc, _+_, _*_}
+use Prim.Native.Nat.{ℕ, suc, _+_, _*_, _^_, _<_}
 use mathlib.Core.Bool.{cond}
 use mathlib.Core.List.{List, _∷_, _++_, foldl}
 use mathlib.Core.Path.{_≡_}
@@ -10,6 +10,7 @@ use Rattle.schedule.specs.Below.{maxBelow}
 use Rattle.sets.specs.Sets.{most, size}
 use Rattle.scan.proofs.Model.{Problem, Node, never, starts, leaves, scanned}
 use Rattle.timetable.specs.Mark.{places, noStarts}
+use Rattle.network.specs.Network.{capOf, variantOf, actsOf}
 use Rattle.search.specs.declared.Tally.{Tally}
 
 -- The variant's number, the number of the plan's activities, and the cap.
@@ -32,21 +33,26 @@ pub record Kept : Type 0 where
 abbrev pub kept : Tally → List ℕ → Kept
 kept tally area = record { tally = tally; area = area }
 
--- The working cells hold the count, the least latest end so far and its variant.
-abbrev pub IsTally : List ℕ → Type 0
-IsTally cells = length cells ≡ 3
+-- The working cells hold the count, the least latest end so far, its variant and its starts.
+pub record IsTally (cells : List ℕ) : Type 0 where
+  pub size : length cells ≡ 27
+  pub starts : (i : ℕ) → i < places → getD cells (3 + i) 0 < 2 ^ 16
 
-abbrev pub tallyOf : List ℕ → List ℕ → Tally
-tallyOf cells best =
+abbrev pub tallyOf : List ℕ → Tally
+tallyOf cells =
     record {
       count = getD cells 0 0;
       «best_end» = getD cells 1 0;
       «best_variant» = getD cells 2 0;
-      best = record { starts = best };
+      best = record { starts = drop 3 cells };
     }
 
-abbrev pub keptOf : List ℕ → List ℕ → List ℕ → Kept
-keptOf cells best area = record { tally = tallyOf cells best; area = area }
+abbrev pub keptOf : List ℕ → List ℕ → Kept
+keptOf cells area = record { tally = tallyOf cells; area = area }
+
+-- The setting that stands in the search's table.
+abbrev pub settingIn : List ℕ → Setting
+settingIn t = settingOf (variantOf t) (actsOf t) (capOf t)
 
 -- The area with a row in its own stretch, or unchanged where that does not fit.
 unfoldable pub placed : List ℕ → ℕ → List ℕ → List ℕ
@@ -89,9 +95,7 @@ seen p q k ends = cond (leb (k .tally .count) (q .cap)) (counted p q k ends) k
 unfoldable pub allSeen : Problem → Setting → ℕ → Kept → Kept
 allSeen p q present k = foldl (seen p q) k (scanned p present)
 
--- The whole of the search below a node: the working arrays are as they were, and every schedule has been seen, in order.
-pub record Searched (p : Problem) (q : Setting) (s : Node) (k : Kept) (ends : List ℕ) (avail : List ℕ) (cells : List ℕ) (best : List ℕ) (area : List ℕ) : Type 0 where
-  pub ends-kept : ends ≡ s .ends
-  pub avail-kept : avail ≡ s .avail
-  pub cells-kept : IsTally cells
-  pub kept : keptOf cells best area ≡ foldl (seen p q) k (leaves p (suc (size (s .left) most)) s)
+-- The whole of the search below a node: every schedule has been seen, in order.
+pub record Searched (p : Problem) (q : Setting) (s : Node) (k : Kept) (cells : List ℕ) (area : List ℕ) : Type 0 where
+  pub tally : IsTally cells
+  pub kept : keptOf cells area ≡ foldl (seen p q) k (leaves p (suc (size (s .left) most)) s)

@@ -1,112 +1,134 @@
 // What becomes of a schedule that is found.
-use super::times::later;
+use super::Tally;
+use network::ACTS;
+use network::CAP;
+use network::VARIANT;
 use timetable::Timetable;
 ghost use mathlib.Core.Path.{_≡_};
-ghost use mathlib.Core.List.{[], _∷_, _++_};
+ghost use mathlib.Core.List.{_++_};
 ghost use Prim.Native.Nat.{_+_, _*_, _/_, _^_, _≤_, _<_};
 ghost use lib.ListN.{length, getD, take, drop};
 ghost use Rattle.timetable.specs.Mark.{places};
 ghost use Rattle.scan.proofs.Model.{startOf, starts};
-ghost use Rattle.search.specs.Tables.{problemOf, Ended, Blank};
-ghost use Rattle.search.specs.Seen.{latestEnd, placed, rowOf, settingOf, keptOf, IsTally, tallyOf, better, counted};
+ghost use Rattle.network.specs.Network.{capOf, variantOf, actsOf};
+ghost use Rattle.search.specs.Tables.{problemOf};
+ghost use Rattle.search.specs.Seen.{latestEnd, placed, rowOf, settingIn, keptOf, IsTally, tallyOf, better, seen};
+ghost use Rattle.search.specs.Work.{Ended, Fit};
 
-fn latest_end(ends: &[u16; 32]) -> u16
-    requires { ⌜ Blank (now ends) ⌝ }
-    ensures { λ r. ⌜ r ≡ latestEnd (now (ends .entry)) ⌝ }
-{
-    let mut last = 0;
-    let mut i = 0;
-    while i < 32 {
-        last = later(last, ends[i]);
-        i += 1;
-    }
-    last
-}
-
-fn start_of(end: u16, work: u16) -> u16
-    requires { ⌜ ((end ≡ 0 → ⊥) → work / 16 ≤ end) ⌝ }
+fn start_of(end: u32, work: u32) -> u16
+    requires { ⌜ (end < 2 ^ 16) × ((end ≡ 0 → ⊥) → work / 16 ≤ end) ⌝ }
     ensures { λ r. ⌜ r ≡ startOf end (work / 16) ⌝ }
 {
     if end == 0 {
         Timetable::MARK
     } else {
-        end - work / 16
+        (end - work / 16) as u16
     }
-}
-
-fn timetable_of(work: &[u16; 32], ends: &[u16; 32]) -> Timetable
-    requires { ⌜ Ended (now work) (now ends) ⌝ }
-    ensures { λ r. ⌜ r .starts ≡ starts (problemOf (now (work .entry)) []) places (now (ends .entry)) ⌝ }
-{
-    let mut t = Timetable::empty();
-    let mut i = 0;
-    while i < 24 {
-        t.starts[i] = start_of(ends[i], work[i]);
-        i += 1;
-    }
-    t
 }
 
 // A row is the variant's number and then a start for each of the plan's activities.
-fn write_row(row: &mut [u16], acts: usize, variant: u64, t: Timetable)
-    requires { ⌜ (acts ≤ places) × (acts + 1 ≤ length (now row)) × (variant < 2 ^ 16) ⌝ }
-    ensures { λ _. ⌜ now (row .exit) ≡ (variant ∷ take acts (t .starts)) ++ drop (acts + 1) (now (row .entry)) ⌝ }
+fn write_row(row: &mut [u16], table: &[u32; 131], work: &[u32; 80])
+    requires { ⌜ Ended (now table) (now work) × Fit (now table) × (actsOf (now table) + 1 ≤ length (now row)) ⌝ }
+    ensures { λ _. ⌜ now (row .exit) ≡ rowOf (problemOf (now (table .entry))) (settingIn (now (table .entry))) (now (work .entry)) ++ drop (actsOf (now (table .entry)) + 1) (now (row .entry)) ⌝ }
 {
-    row[0] = variant as u16;
+    let acts = table[ACTS] as usize;
+    row[0] = table[VARIANT] as u16;
     let mut i = 0;
     while i < acts {
-        row[1 + i] = t.starts[i];
+        row[1 + i] = start_of(work[i], table[i]);
         i += 1;
     }
 }
 
 // The row in its own stretch of the area, where that is long enough.
-fn list(work: &[u16; 32], acts: usize, variant: u64, ends: &[u16; 32], count: u64, area: &mut [u16])
-    requires { ⌜ Ended (now work) (now ends) × (acts ≤ places) × (variant < 2 ^ 16) × (count < 2 ^ 32) ⌝ }
-    ensures { λ _. ⌜ now (area .exit) ≡ placed (now (area .entry)) (count * (acts + 1)) (rowOf (problemOf (now (work .entry)) []) (settingOf variant acts 0) (now (ends .entry))) ⌝ }
+fn list(table: &[u32; 131], work: &[u32; 80], count: u64, area: &mut [u16])
+    requires { ⌜ Ended (now table) (now work) × Fit (now table) × (count < 2 ^ 32) ⌝ }
+    ensures { λ _. ⌜ now (area .exit) ≡ placed (now (area .entry)) (count * (actsOf (now (table .entry)) + 1)) (rowOf (problemOf (now (table .entry))) (settingIn (now (table .entry))) (now (work .entry))) ⌝ }
 {
+    let acts = table[ACTS] as usize;
     let at = (count as usize) * (acts + 1);
     if at + acts + 1 <= area.len() {
-        write_row(&mut area[at..], acts, variant, timetable_of(work, ends));
+        write_row(&mut area[at..], table, work);
+    }
+}
+
+// The starts go behind the first three cells.
+fn keep(table: &[u32; 131], work: &[u32; 80], cells: &mut [u64; 27])
+    requires { ⌜ Ended (now table) (now work) × IsTally (now cells) ⌝ }
+    ensures { λ _. ⌜ IsTally (now (cells .exit)) × (now (cells .exit) ≡ take 3 (now (cells .entry)) ++ starts (problemOf (now (table .entry))) places (now (work .entry))) ⌝ }
+{
+    let mut i = 0;
+    while i < 24 {
+        cells[3 + i] = start_of(work[i], table[i]) as u64;
+        i += 1;
     }
 }
 
 // The schedule is counted, and kept where it ends sooner than the one kept.
-fn rank(
-    work: &[u16; 32],
-    variant: u64,
-    ends: &[u16; 32],
-    cells: &mut [u64; 3],
-    best: &mut [u16; 24],
-)
-    requires { ⌜ Ended (now work) (now ends) × IsTally (now cells) × (getD (now cells) 0 0 < 2 ^ 32) ⌝ }
+fn rank(table: &[u32; 131], work: &[u32; 80], latest: u32, cells: &mut [u64; 27])
+    requires { ⌜ Ended (now table) (now work) × Fit (now table) × IsTally (now cells) × (getD (now cells) 0 0 < 2 ^ 32) × (latest ≡ latestEnd (now work)) ⌝ }
     ensures { λ _. ⌜ IsTally (now (cells .exit)) ⌝ }
-    ensures { λ _. ⌜ tallyOf (now (cells .exit)) (now (best .exit)) ≡ better (problemOf (now (work .entry)) []) (settingOf variant 0 0) (tallyOf (now (cells .entry)) (now (best .entry))) (now (ends .entry)) ⌝ }
+    ensures { λ _. ⌜ tallyOf (now (cells .exit)) ≡ better (problemOf (now (table .entry))) (settingIn (now (table .entry))) (tallyOf (now (cells .entry))) (now (work .entry)) ⌝ }
 {
     cells[0] = cells[0] + 1;
-    let end = latest_end(ends) as u64;
+    let end = latest as u64;
     if end < cells[1] {
-        let t = timetable_of(work, ends);
-        let s = t.starts;
         cells[1] = end;
-        cells[2] = variant;
-        *best = s;
+        cells[2] = table[VARIANT] as u64;
+        keep(table, work, cells);
     }
 }
 
+// Once there are more than the cap, nothing more is done.
 pub fn leave(
-    work: &[u16; 32],
-    acts: usize,
-    variant: u64,
-    ends: &[u16; 32],
-    cells: &mut [u64; 3],
-    best: &mut [u16; 24],
+    table: &[u32; 131],
+    work: &[u32; 80],
+    latest: u32,
+    cells: &mut [u64; 27],
     area: &mut [u16],
 )
-    requires { ⌜ Ended (now work) (now ends) × (acts ≤ places) × (variant < 2 ^ 16) × IsTally (now cells) × (getD (now cells) 0 0 < 2 ^ 32) ⌝ }
+    requires { ⌜ Ended (now table) (now work) × Fit (now table) × IsTally (now cells) × (latest ≡ latestEnd (now work)) ⌝ }
     ensures { λ _. ⌜ IsTally (now (cells .exit)) ⌝ }
-    ensures { λ _. ⌜ keptOf (now (cells .exit)) (now (best .exit)) (now (area .exit)) ≡ counted (problemOf (now (work .entry)) []) (settingOf variant acts 0) (keptOf (now (cells .entry)) (now (best .entry)) (now (area .entry))) (now (ends .entry)) ⌝ }
+    ensures { λ _. ⌜ keptOf (now (cells .exit)) (now (area .exit)) ≡ seen (problemOf (now (table .entry))) (settingIn (now (table .entry))) (keptOf (now (cells .entry)) (now (area .entry))) (now (work .entry)) ⌝ }
 {
-    list(work, acts, variant, ends, cells[0], area);
-    rank(work, variant, ends, cells, best);
+    if cells[0] <= table[CAP] as u64 {
+        list(table, work, cells[0], area);
+        rank(table, work, latest, cells);
+    }
+}
+
+// The working cells: the count, the latest end, the variant and the starts of a tally.
+pub fn cells_of(tally: Tally) -> [u64; 27]
+    ensures { λ r. ⌜ IsTally r × (tallyOf r ≡ tally) ⌝ }
+{
+    let mut cells = [0; 27];
+    cells[0] = tally.count;
+    cells[1] = tally.best_end;
+    cells[2] = tally.best_variant;
+    let best = tally.best;
+    let starts = best.starts;
+    let mut i = 0;
+    while i < 24 {
+        cells[3 + i] = starts[i] as u64;
+        i += 1;
+    }
+    cells
+}
+
+pub fn tally_of(cells: &[u64; 27]) -> Tally
+    requires { ⌜ IsTally (now cells) ⌝ }
+    ensures { λ r. ⌜ r ≡ tallyOf (now (cells .entry)) ⌝ }
+{
+    let mut best = Timetable::empty();
+    let mut i = 0;
+    while i < 24 {
+        best.starts[i] = cells[3 + i] as u16;
+        i += 1;
+    }
+    Tally {
+        count: cells[0],
+        best_end: cells[1],
+        best_variant: cells[2],
+        best,
+    }
 }

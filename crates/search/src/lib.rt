@@ -1,20 +1,29 @@
 // The search for the active schedules of one variant.
-mod bits;
+mod choices;
 mod leaf;
-mod times;
 
-use bits::after_lowest;
-use bits::lowest;
+use choices::choice_end;
+use choices::contests;
+use choices::earliest_start;
+use choices::later;
+use choices::least_key;
+use choices::release;
+use leaf::cells_of;
 use leaf::leave;
-use times::choice_end;
-use times::least_key;
+use leaf::tally_of;
+use members::after_lowest;
+use members::lowest;
+use network::CAP;
+use network::PREDS;
 use timetable::Timetable;
 ghost use mathlib.Core.Path.{_≡_};
-ghost use Prim.Native.Nat.{ℕ, _+_, _*_, _^_, _≤_, _<_};
-ghost use lib.ListN.{getD, take};
-ghost use Rattle.timetable.specs.Mark.{places};
-ghost use Rattle.search.specs.Tables.{problemOf, nodeOf, tablesOf, InBounds, Asked, InRange};
-ghost use Rattle.search.specs.Seen.{settingOf, noTally, keptOf, kept, IsTally, allSeen, Searched};
+ghost use Prim.Native.Nat.{_^_, _<_};
+ghost use Rattle.sets.specs.Sets.{most};
+ghost use Rattle.scan.proofs.Model.{Node};
+ghost use Rattle.members.specs.Lowest.{afterLowest};
+ghost use Rattle.search.specs.Tables.{tablesOf, Asked};
+ghost use Rattle.search.specs.Seen.{settingOf, noTally, kept, IsTally, allSeen};
+ghost use Rattle.search.specs.Work.{Timed, Apart, Fit, AtNode, Explored, Opened};
 
 // How many schedules were found, and the one of them that ends first: its latest end, its variant and its starts.
 pub struct Tally {
@@ -42,87 +51,123 @@ impl Tally {
 // More than any end, and more than any key.
 const NEVER: u32 = 4294967295;
 
-// Every schedule below a node of the search is counted, and kept or written. The working arrays are left as they were.
-fn descend(
-    work: &[u16; 32],
-    preds: &[u32; 32],
-    acts: usize,
-    variant: u64,
-    cap: u64,
+// The working array has the end of each frozen activity, then when the predecessors of each candidate have ended, then the
+// last frozen end on each resource.
+const READY: usize = 32;
+
+const FREE: usize = 64;
+
+// The last activity left is frozen.
+fn finish(
+    table: &[u32; 131],
     left: u32,
-    ends: &mut [u16; 32],
-    avail: &mut [u16; 16],
-    cells: &mut [u64; 3],
-    best: &mut [u16; 24],
+    cands: u32,
+    latest: u32,
+    work: &mut [u32; 80],
+    cells: &mut [u64; 27],
     area: &mut [u16],
 )
-    requires { ⌜ InRange (now work) (now preds) left (now ends) (now avail) × (acts ≤ places) × (variant < 2 ^ 16) × (cap < 2 ^ 32) × IsTally (now cells) ⌝ }
-    ensures { λ _. ⌜ Searched (problemOf (now (work .entry)) (now (preds .entry))) (settingOf variant acts cap) (nodeOf left (now (ends .entry)) (now (avail .entry))) (keptOf (now (cells .entry)) (now (best .entry)) (now (area .entry))) (now (ends .exit)) (now (avail .exit)) (now (cells .exit)) (now (best .exit)) (now (area .exit)) ⌝ }
+    requires { ⌜ Fit (now table) × Timed (now table) (now work) × IsTally (now cells) × (0 < left) × (afterLowest left ≡ 0) × ((s : Node) × AtNode (now table) left cands latest (now work) s) ⌝ }
+    ensures { λ _. ⌜ Explored (now (table .entry)) left cands latest (now (work .entry)) (now (cells .entry)) (now (area .entry)) (now (work .exit)) (now (cells .exit)) (now (area .exit)) ⌝ }
 {
-    if cells[0] > cap {
-        return;
+    if cands != 0 {
+        let i = lowest(cands);
+        let end = earliest_start(table, work, i) + table[i] / 16;
+        work[i] = end;
+        leave(table, work, later(latest, end), cells, area);
     }
-    if left == 0 {
-        leave(work, acts, variant, ends, cells, best, area);
-        return;
-    }
-    let key = least_key(work, preds, ends, avail, left);
-    let r = (key % 16) as usize;
+}
+
+// No resource is wanted twice by what is left, so that each activity starts as soon as it can.
+fn settle(
+    table: &[u32; 131],
+    left: u32,
+    cands: u32,
+    latest: u32,
+    work: &mut [u32; 80],
+    cells: &mut [u64; 27],
+    area: &mut [u16],
+)
+    requires { ⌜ Fit (now table) × Timed (now table) (now work) × IsTally (now cells) × Apart (now table) left × ((s : Node) × AtNode (now table) left cands latest (now work) s) ⌝ }
+    ensures { λ _. ⌜ Explored (now (table .entry)) left cands latest (now (work .entry)) (now (cells .entry)) (now (area .entry)) (now (work .exit)) (now (cells .exit)) (now (area .exit)) ⌝ }
+{
+    let mut last = latest;
     let mut rest = left;
+    let mut open = cands;
+    while open != 0 {
+        let i = lowest(open);
+        let end = earliest_start(table, work, i) + table[i] / 16;
+        work[i] = end;
+        last = later(last, end);
+        rest = sets::without(rest, i);
+        open = release(table, work, rest, after_lowest(open), i);
+    }
+    if rest == 0 {
+        leave(table, work, last, cells, area);
+    }
+}
+
+// Every schedule below a node of the search is counted, and kept or written.
+fn descend(
+    table: &[u32; 131],
+    left: u32,
+    cands: u32,
+    latest: u32,
+    known: u32,
+    work: &mut [u32; 80],
+    cells: &mut [u64; 27],
+    area: &mut [u16],
+)
+    requires { ⌜ Fit (now table) × Timed (now table) (now work) × IsTally (now cells) × (0 < known → 0 < afterLowest left) × ((s : Node) × AtNode (now table) left cands latest (now work) s) ⌝ }
+    ensures { λ _. ⌜ Explored (now (table .entry)) left cands latest (now (work .entry)) (now (cells .entry)) (now (area .entry)) (now (work .exit)) (now (cells .exit)) (now (area .exit)) ⌝ }
+{
+    if cells[0] > table[CAP] as u64 {
+        return;
+    }
+    let many = contests(table, left, known);
+    if many == 0 {
+        settle(table, left, cands, latest, work, cells, area);
+        return;
+    }
+    let key = least_key(table, work, cands);
+    let mut rest = cands;
     while rest != 0 {
         let i = lowest(rest);
         rest = after_lowest(rest);
-        let end = choice_end(work, preds, ends, avail, left, key, i);
+        let end = choice_end(table, work, key, i);
         if end != NEVER {
-            let old_end = ends[i];
-            let old_avail = avail[r];
-            let stop = end as u16;
-            ends[i] = stop;
-            avail[r] = stop;
-            descend(
-                work,
-                preds,
-                acts,
-                variant,
-                cap,
-                sets::without(left, i),
-                ends,
-                avail,
-                cells,
-                best,
-                area,
-            );
-            ends[i] = old_end;
-            avail[r] = old_avail;
+            let r = (table[i] % 16) as usize;
+            let free = work[FREE + r];
+            work[i] = end;
+            work[FREE + r] = end;
+            let fewer = sets::without(left, i);
+            let next = release(table, work, fewer, sets::without(cands, i), i);
+            let last = later(latest, end);
+            if after_lowest(fewer) == 0 {
+                finish(table, fewer, next, last, work, cells, area);
+            } else {
+                descend(table, fewer, next, last, many - 1, work, cells, area);
+            }
+            work[FREE + r] = free;
         }
     }
 }
 
-// 16 times the duration plus the resource of each of the first `acts` activities.
-fn packed(durations: &[u16; 24], resources: &[u16; 24], acts: usize) -> [u16; 32]
-    requires { ⌜ InBounds (now durations) (now resources) acts ⌝ }
-    ensures { λ r. ⌜ ((i : ℕ) → getD r i 0 ≡ 16 * getD (take acts (now (durations .entry))) i 0 + getD (take acts (now (resources .entry))) i 0) ⌝ }
+// Those of a set that have no predecessor in it.
+fn opened(table: &[u32; 131], set: u32) -> u32
+    requires { ⌜ set < 2 ^ most ⌝ }
+    ensures { λ r. ⌜ Opened (now (table .entry)) set r ⌝ }
 {
-    let mut work = [0; 32];
-    let mut i = 0;
-    while i < acts {
-        work[i] = 16 * durations[i] + resources[i];
-        i += 1;
+    let mut all = 0;
+    let mut rest = set;
+    while rest != 0 {
+        let i = lowest(rest);
+        rest = after_lowest(rest);
+        if !sets::meets(table[PREDS + i], set) {
+            all = sets::union(all, sets::single(i));
+        }
     }
-    work
-}
-
-fn padded(preds: &[u32; 24], acts: usize) -> [u32; 32]
-    requires { ⌜ acts ≤ places ⌝ }
-    ensures { λ r. ⌜ ((i : ℕ) → getD r i 0 ≡ getD (take acts (now (preds .entry))) i 0) ⌝ }
-{
-    let mut before = [0; 32];
-    let mut i = 0;
-    while i < acts {
-        before[i] = preds[i];
-        i += 1;
-    }
-    before
+    all
 }
 
 // Every active schedule of one variant is counted, until there are more than `cap`; the one that ends first of all so
@@ -141,30 +186,10 @@ pub fn search(
     requires { ⌜ Asked (now durations) (now resources) (now preds) acts present variant cap ⌝ }
     ensures { λ r. ⌜ kept r (now (area .exit)) ≡ allSeen (tablesOf (now (durations .entry)) (now (resources .entry)) (now (preds .entry)) acts) (settingOf variant acts cap) present (kept tally (now (area .entry))) ⌝ }
 {
-    let work = packed(durations, resources, acts);
-    let before = padded(preds, acts);
-    let mut ends = [0; 32];
-    let mut avail = [0; 16];
-    let mut cells = [tally.count, tally.best_end, tally.best_variant];
-    let first = tally.best;
-    let mut best = first.starts;
-    descend(
-        &work,
-        &before,
-        acts,
-        variant,
-        cap,
-        present,
-        &mut ends,
-        &mut avail,
-        &mut cells,
-        &mut best,
-        area,
-    );
-    Tally {
-        count: cells[0],
-        best_end: cells[1],
-        best_variant: cells[2],
-        best: Timetable { starts: best },
-    }
+    let table = network::network(durations, resources, preds, acts, variant, cap);
+    let cands = opened(&table, present);
+    let mut work = [0; 80];
+    let mut cells = cells_of(tally);
+    descend(&table, present, cands, 0, 0, &mut work, &mut cells, area);
+    tally_of(&cells)
 }

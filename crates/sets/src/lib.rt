@@ -2,7 +2,7 @@
 ghost use mathlib.Core.Path.{_≡_};
 ghost use Prim.Native.Nat.{_-_, _^_, _<_};
 ghost use mathlib.Core.Bool.{true};
-ghost use lib.Bits.{bitOr};
+ghost use lib.Bits.{bitAnd, bitOr, bitXor};
 ghost use Rattle.sets.specs.Sets.{most, has, meet};
 
 // The set of activity i alone.
@@ -40,4 +40,11 @@ pub fn without(set: u32, i: usize) -> u32
     ensures { λ r. ⌜ r ≡ set - 2 ^ i ⌝ }
 {
     set ^ single(i)
+}
+
+// The activities of the first set that are not in the second.
+pub fn minus(a: u32, b: u32) -> u32
+    ensures { λ r. ⌜ r ≡ bitXor a (bitAnd a b) ⌝ }
+{
+    a ^ (a & b)
 }

@@ -2,7 +2,7 @@
 use Prim.Native.Nat.{ℕ, zero, suc, _^_, _≤_, _<_}
 use native.Mathlib.Decide.{decLt}
 use native.Mathlib.Omega.{arith}
-use mathlib.Core.Bool.{true}
+use mathlib.Core.Bool.{true, false}
 use mathlib.Core.List.{List, [], _∷_}
 use mathlib.Core.Logic.{by-cases}
 use mathlib.Core.Path.{_≡_, refl, sym, ap, _∙_}
@@ -24,6 +24,7 @@ use Rattle.search.specs.Tables.{tablesOf, Asked}
 use Rattle.read.proofs.Reading.{acts-are}
 use Rattle.order.specs.Order.{OrderOf}
 use Rattle.order.specs.declared.Order.{Order}
+use Rattle.order.proofs.Absent.{none-before}
 use Rattle.pose.specs.Posable.{Holds}
 use Rattle.seam.proofs.Posed.{setOf, set-is, set-below, problemOf, presentOf}
 use Rattle.sweep.specs.Swept.{problemAt, presentAt}
@@ -106,17 +107,30 @@ module _ (tables : Tables) (t : Term) (h : Holds tables t) (v : ℕ) (l : v < va
   resource-is : (i : ℕ) → i < N → getD (tables .resource) i 0 ≡ activityAt p i .resource
   resource-is i b = sym (getD-take N (tables .resource) i 0 b) ∙ sym (ap (λ (a : Activity). a .resource) (at i))
 
+  -- What the variant has lasts a tick or more, and nothing precedes what it does not have.
+  long : (i : ℕ) → has (r .present) i ≡ true → 1 ≤ getD (take N (tables .duration)) i 0
+  long i y =
+      let b : i < N = member-below i (sym (o .members i) ∙ y) in
+      omega (arith, ap (λ (a : Activity). a .duration) (at i), duration-at p (h .valid .ranges) i (omega (arith, acts-is)) .0)
+
+  absent : (i : ℕ) → i < most → has (r .present) i ≡ false → getD (take N (r .preds)) i 0 ≡ 0
+  absent i b z =
+      by-cases
+      (decLt i N)
+      (λ c. getD-take N (r .preds) i 0 c ∙ none-before w r o i b z)
+      (λ c. List·getD-eq-default (take N (r .preds)) 0 (omega (arith, length-take N (r .preds))))
+
   pub asked : (cap : ℕ) → cap < 2 ^ 32 → Asked (tables .duration) (tables .resource) (r .preds) N (r .present) v cap
   asked cap wide =
       let inside : (i : ℕ) → i < N → i < length (p .activities) = λ i b. omega (arith, acts-is) in
       record {
-        bounds = record {
-          few = few;
-          short = λ i b. omega (arith, duration-is i b, duration-at p (h .valid .ranges) i (inside i b));
-          known = λ i b. omega (arith, resource-is i b, device-below p (h .valid .ranges) i (inside i b), resources-between p (h .valid .ranges));
-        };
+        few = few;
+        short = λ i b. omega (arith, duration-is i b, duration-at p (h .valid .ranges) i (inside i b));
+        known = λ i b. omega (arith, resource-is i b, device-below p (h .valid .ranges) i (inside i b), resources-between p (h .valid .ranges));
         sets = λ i b. o .low i (omega (arith, few));
         set = o .small;
+        long = long;
+        absent = absent;
         cell = omega (arith, h .valid .few);
         word = wide;
       }

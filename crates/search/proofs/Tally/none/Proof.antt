@@ -1,9 +1,6 @@
 -- `Tally::none` meets its contract.
-use mathlib.Core.List.{[], _∷_}
-use mathlib.Core.Path.{ap}
-use borrow.Author.Needs.{needs}
 use Rattle.scan.proofs.Model.{never}
-use Rattle.search.specs.Seen.{tallyOf}
+use borrow.Author.Needs.{needs}
 use Rattle.search.proofs.Tally.none.Statement.{statement}
 use Rattle.search.proofs.Tally.none.Tie as tie
 
@@ -14,7 +11,7 @@ cast-t2 : tie.Need-cast-t2
 cast-t2 c = search needs
 
 returns : tie.Need-returns
-returns c = ap (tallyOf (0 ∷ never ∷ 0 ∷ [])) (c .empty .ensures)
+returns c = λ i. record { count = 0; «best_end» = never; «best_variant» = 0; best = record { starts = c .empty .ensures i } }
 
 pub none-spec : {M : Type 1} → statement M
 none-spec = tie.close (tie.spec empty-requires cast-t2 returns)

@@ -1,32 +1,63 @@
 -- `leave` meets its contract.
-use mathlib.Core.List.{[]}
-use Rattle.search.specs.Seen.{tallyOf}
+use native.Mathlib.Omega.{arith}
+use Rattle.search.specs.Seen.{settingIn}
 use Rattle.search.specs.Tables.{problemOf}
-use Rattle.search.proofs.Rows.{kept-counted}
+use Rattle.search.proofs.Rows.{seen-counted, seen-enough}
 use borrow.Author.Needs.{needs}
 use Rattle.search.proofs.leaf.leave.Statement.{statement}
 use Rattle.search.proofs.leaf.leave.Tie as tie
+
+element-copy-out-if1 : tie.Need-element-copy-out-if1
+element-copy-out-if1 c = search needs
+
+element-copy-out-if1-2 : tie.Need-element-copy-out-if1-2
+element-copy-out-if1-2 c = search needs
+
+cast-if1 : tie.Need-cast-if1
+cast-if1 c = omega arith
 
 element-copy-out-list : tie.Need-element-copy-out-list
 element-copy-out-list c = search needs
 
 list-requires : tie.Need-list-requires
-list-requires c κs = search needs
+list-requires c κs =
+    let start = c .before .before .before .before .before .before in
+    (start .pre .0, start .pre .1, omega (arith, start .pre .1 .cap, c .before .before .if1 .taken))
 
 rank-requires : tie.Need-rank-requires
-rank-requires c κs = search needs
+rank-requires c κs =
+    let start = c .before .before .before .before .before .before .before .before .before .before in
+    (start .pre .0, start .pre .1, start .pre .2, omega (arith, start .pre .1 .cap, c .before .before .before .before .before .before .if1 .taken), start .pre .3)
 
 same-length : tie.Need-same-length
 same-length c = search needs
 
 returns : tie.Need-returns
 returns c =
-    let a = c .before .before .before .before .before .before .before .before .before .args in (
+    let a = c .before .before .before .before .before .before .before .before .before .before .before .args in
+    let t = a .table .now in (
       c .rank .ensures .0,
-      kept-counted (problemOf (a .work .now) []) (a .variant) (a .acts) 0 (a .ends .now) (a .best .now) (tallyOf (c .rank .last .1 .1 .1 .0) (c .rank .last .1 .1 .1 .1 .0)) (a .area .now)
-          (c .before .before .before .before .before .list .last .1 .1 .1 .1 .1 .0) (a .cells .now) (c .rank .ensures .1) (c .before .before .before .before .before .list .ensures),
+      seen-counted (problemOf t) (settingIn t) (a .work .now) (a .cells .now) (c .rank .last .1 .1 .1 .0) (a .area .now) (c .before .before .before .before .list .last .1 .1 .1 .0)
+          (c .before .before .before .before .before .before .before .if1 .taken) (c .rank .ensures .1) (c .before .before .before .before .list .ensures),
     )
+
+returns-2 : tie.Need-returns-2
+returns-2 c =
+    let start = c .before .before .before .before in
+    let a = start .args in
+    let t = a .table .now in
+    (start .pre .2, seen-enough (problemOf t) (settingIn t) (a .work .now) (a .cells .now) (a .area .now) (c .if1 .left))
 
 pub leave-spec : {M : Type 1} → statement M
 leave-spec =
-    tie.close (tie.spec element-copy-out-list list-requires rank-requires same-length returns)
+    tie.close
+    (tie.spec
+    element-copy-out-if1
+    element-copy-out-if1-2
+    cast-if1
+    element-copy-out-list
+    list-requires
+    rank-requires
+    same-length
+    returns
+    returns-2)

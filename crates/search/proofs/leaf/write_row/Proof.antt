@@ -1,22 +1,32 @@
--- `write_row` meets its contract. The loop's invariant: the starts passed are copied behind the first cell.
-use mathlib.Core.Path.{_≡_, sym, ap, _∙_}
-use mathlib.Core.List.{List}
-use Prim.Native.Nat.{ℕ, _+_, _≤_, _-_}
-use native.Mathlib.Numerals.{add-one}
+-- `write_row` meets its contract. The loop's invariant: the starts passed are stored behind the first cell.
+use mathlib.Core.Path.{_≡_, refl, ap, _∙_}
+use Prim.Native.Nat.{_≤_, _-_}
 use native.Mathlib.Omega.{arith}
+use lib.ListN.{length, set, length-set}
+use lib.Seq.{paste, paste-zero, length-paste}
+use Rattle.scan.proofs.Model.{starts}
+use Rattle.network.specs.Network.{variantOf, actsOf}
+use Rattle.search.specs.Tables.{problemOf}
+use Rattle.search.proofs.Rows.{length-starts, stored, one-more, row-done}
 use borrow.Author.Needs.{needs}
-use lib.ListN.{length, getD, set, length-set}
-use lib.Seq.{paste, paste-zero, paste-suc, length-paste}
-use Rattle.search.proofs.Rows.{row-written}
 use Rattle.search.proofs.leaf.write_row.Statement.{statement}
 use Rattle.search.proofs.leaf.write_row.Tie as tie
 
 abbrev Inv-loop : tie.InvT-loop
-Inv-loop row₀ acts variant t i₀ row i =
-    (i ≤ acts) × (length (t .starts) ≡ 24) × (row ≡ paste row₀ 1 (t .starts) i)
+Inv-loop row₀ table work acts i₀ row i =
+    (i ≤ acts) × (row ≡ paste row₀ 1 (starts (problemOf table) acts work) i)
 
 abbrev μ-loop : tie.MeasureT-loop
-μ-loop row₀ acts variant t i₀ row i = acts - i
+μ-loop row₀ table work acts i₀ row i = acts - i
+
+element-copy-out-acts : tie.Need-element-copy-out-acts Inv-loop μ-loop
+element-copy-out-acts c = omega arith
+
+cast-acts : tie.Need-cast-acts Inv-loop μ-loop
+cast-acts c = omega arith
+
+element-copy-out-row : tie.Need-element-copy-out-row Inv-loop μ-loop
+element-copy-out-row c = omega arith
 
 cast-row : tie.Need-cast-row Inv-loop μ-loop
 cast-row c = omega arith
@@ -24,31 +34,47 @@ cast-row c = omega arith
 slice-write-row : tie.Need-slice-write-row Inv-loop μ-loop
 slice-write-row c = omega arith
 
-row-length : (c : tie.At-loop Inv-loop μ-loop) → length (c .loop .row) ≡ length (c .before .args .row .now)
+row-length : (c : tie.At-loop Inv-loop μ-loop) → length (c .loop .row) ≡ length (c .before .before .before .before .args .row .now)
 row-length c =
-    let a = c .before .args in
-    let row₀ = set (a .row .now) 0 (a .variant) in
-    ap length (c .loop .inv .2)
-    ∙ length-paste row₀ 1 (a .t4 .starts) (c .loop .i) (omega (arith, length-set (a .row .now) 0 (a .variant))) (omega arith)
-    ∙ length-set (a .row .now) 0 (a .variant)
+    let a = c .before .before .before .before .args in
+    let s = starts (problemOf (a .table .now)) (actsOf (a .table .now)) (a .work .now) in
+    let row₀ = set (a .row .now) 0 (variantOf (a .table .now)) in
+    ap length (c .loop .inv .1)
+    ∙ length-paste row₀ 1 s (c .loop .i) (omega (arith, length-set (a .row .now) 0 (variantOf (a .table .now))))
+    (omega (arith, length-starts (problemOf (a .table .now)) (actsOf (a .table .now)) (a .work .now)))
+    ∙ length-set (a .row .now) 0 (variantOf (a .table .now))
 
 loop-holds : tie.Need-loop-holds Inv-loop μ-loop
-loop-holds c = (omega arith, search needs, paste-zero (set (c .args .row .now) 0 (c .args .variant)) 1 (c .args .t4 .starts))
+loop-holds c =
+    let a = c .before .before .before .args in
+    (omega arith, paste-zero (set (a .row .now) 0 (variantOf (a .table .now))) 1 (starts (problemOf (a .table .now)) (actsOf (a .table .now)) (a .work .now)))
 
-mul-row : tie.Need-mul-row Inv-loop μ-loop
-mul-row c = omega arith
+mul-start-of : tie.Need-mul-start-of Inv-loop μ-loop
+mul-start-of c = omega arith
 
-element-copy-out-row : tie.Need-element-copy-out-row Inv-loop μ-loop
-element-copy-out-row c = omega arith
+element-copy-out-start-of : tie.Need-element-copy-out-start-of Inv-loop μ-loop
+element-copy-out-start-of c = omega arith
+
+mul-start-of-2 : tie.Need-mul-start-of-2 Inv-loop μ-loop
+mul-start-of-2 c = omega arith
+
+element-copy-out-start-of-2 : tie.Need-element-copy-out-start-of-2 Inv-loop μ-loop
+element-copy-out-start-of-2 c = omega arith
+
+start-of-requires : tie.Need-start-of-requires Inv-loop μ-loop
+start-of-requires c κs =
+    let at = c .before .before .before in
+    let start = at .before .before .before .before in
+    (start .pre .0 .timed .times (at .loop .i), start .pre .0 .ran (at .loop .i) (omega (arith, start .pre .1 .acts)))
 
 add-row : tie.Need-add-row Inv-loop μ-loop
 add-row c = omega arith
 
-mul-row-2 : tie.Need-mul-row-2 Inv-loop μ-loop
-mul-row-2 c = omega arith
+mul-row : tie.Need-mul-row Inv-loop μ-loop
+mul-row c = omega arith
 
 slice-write-row-2 : tie.Need-slice-write-row-2 Inv-loop μ-loop
-slice-write-row-2 c = omega (arith, row-length (c .before .before))
+slice-write-row-2 c = omega (arith, row-length (c .before .before .before .before))
 
 add-i : tie.Need-add-i Inv-loop μ-loop
 add-i c = omega arith
@@ -58,15 +84,16 @@ loop-less c = omega arith
 
 loop-again : tie.Need-loop-again Inv-loop μ-loop
 loop-again c =
-    let at = c .before .before in
-    let a = at .before .args in
-    let row₀ = set (a .row .now) 0 (a .variant) in
+    let at = c .before .before .before .before in
+    let start = at .before .before .before .before in
+    let a = start .args in
+    let t = a .table .now in
+    let s = starts (problemOf t) (actsOf t) (a .work .now) in
     let i = at .loop .i in (
       omega arith,
-      at .loop .inv .1,
-      ap (λ (r : List ℕ). set r (1 + i) (getD (a .t4 .starts) i 0)) (at .loop .inv .2)
-          ∙ paste-suc row₀ 1 (a .t4 .starts) i 0 (omega (arith, length-set (a .row .now) 0 (a .variant))) (omega arith)
-          ∙ ap (paste row₀ 1 (a .t4 .starts)) (sym (add-one i)),
+      one-more (set (a .row .now) 0 (variantOf t)) s (at .loop .row) 1 i (c .start-of .result) (omega (arith, length-set (a .row .now) 0 (variantOf t)))
+          (omega (arith, length-starts (problemOf t) (actsOf t) (a .work .now)))
+          (stored t (a .work .now) (actsOf t) i (c .start-of .result) (omega arith) (omega (arith, start .pre .1 .acts)) (c .start-of .ensures)) (at .loop .inv .1),
     )
 
 same-length : tie.Need-same-length Inv-loop μ-loop
@@ -74,10 +101,12 @@ same-length c = row-length (c .before)
 
 returns : tie.Need-returns Inv-loop μ-loop
 returns c =
-    let a = c .before .before .args in
-    let row₀ = set (a .row .now) 0 (a .variant) in
-    let all : c .before .loop .i ≡ a .acts = omega arith in
-    c .before .loop .inv .2 ∙ ap (paste row₀ 1 (a .t4 .starts)) all ∙ row-written (a .row .now) (a .t4 .starts) (a .variant) (a .acts) (omega arith)
+    let a = c .before .before .before .before .before .args in
+    let t = a .table .now in
+    let all : c .before .loop .i ≡ actsOf t = omega arith in
+    c .before .loop .inv .1
+    ∙ ap (paste (set (a .row .now) 0 (variantOf t)) 1 (starts (problemOf t) (actsOf t) (a .work .now))) all
+    ∙ row-done t (a .work .now) (a .row .now) (actsOf t) refl (omega arith)
 
 pub write-row-spec : {M : Type 1} → statement M
 write-row-spec =
@@ -85,13 +114,19 @@ write-row-spec =
     (tie.spec
     Inv-loop
     μ-loop
+    element-copy-out-acts
+    cast-acts
+    element-copy-out-row
     cast-row
     slice-write-row
     loop-holds
-    mul-row
-    element-copy-out-row
+    mul-start-of
+    element-copy-out-start-of
+    mul-start-of-2
+    element-copy-out-start-of-2
+    start-of-requires
     add-row
-    mul-row-2
+    mul-row
     slice-write-row-2
     add-i
     loop-less

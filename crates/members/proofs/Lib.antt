@@ -1,0 +1,2 @@
+-- Loops over the members of a set.
+pub mod Members

@@ -1,0 +1,2 @@
+-- What the contracts on a set's members say.
+pub mod Lowest

@@ -1,0 +1,10 @@
+-- The lowest member of a set, and the set without it.
+use Prim.Native.Nat.{ℕ, _-_}
+use lib.Bits.{bitAnd}
+use lib.Count.{trailingZeros}
+
+unfoldable pub lowestOf : ℕ → ℕ
+lowestOf set = trailingZeros 32 set
+
+unfoldable pub afterLowest : ℕ → ℕ
+afterLowest set = bitAnd set (set - 1)

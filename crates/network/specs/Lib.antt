@@ -1,0 +1,3 @@
+-- What the contracts on the table of a variant say.
+pub mod Network
+pub mod Steps

@@ -1,0 +1,60 @@
+/* The dot test of the paper by each call, from C. */
+#include "vialbluff.h"
+
+#include <assert.h>
+#include <string.h>
+
+static const char PLAN[] =
+    "plan=1\nres=3\nacts=5\nact=0,4\nact=1,2\nact=1,3\nact=2,5\nact=1,6\n"
+    "nodes=9\nnode=s,2\nnode=x,2\nnode=a,0\nnode=p,2\nnode=a,1\nnode=a,2\nnode=p,2\nnode=a,3\nnode=a,4\n";
+
+static const char VARIANT_0[] =
+    "plan=1\nres=3\nacts=5\nact=0,4\nact=1,2\nact=1,3\nact=2,5\nact=1,6\n"
+    "nodes=5\nnode=s,2\nnode=a,0\nnode=p,2\nnode=a,3\nnode=a,4\n";
+
+enum { ABSENT = VIALBLUFF_ABSENT, CELLS = 20, BYTES = 200 };
+
+static int is(const uint64_t out[4], uint64_t a, uint64_t b, uint64_t c, uint64_t d) {
+  return out[0] == a && out[1] == b && out[2] == c && out[3] == d;
+}
+
+int main(void) {
+  const uint8_t *file = (const uint8_t *)PLAN;
+  const size_t length = sizeof PLAN - 1;
+  uint64_t out[4];
+
+  vialbluff_read(file, length, out);
+  assert(is(out, 0, 5, 9, 2));
+
+  uint8_t text[BYTES];
+  memset(text, 7, sizeof text);
+  vialbluff_write(file, length, 0, text, sizeof text, out);
+  assert(is(out, 0, sizeof VARIANT_0 - 1, 0, 0));
+  assert(memcmp(text, VARIANT_0, sizeof VARIANT_0 - 1) == 0 && text[sizeof VARIANT_0 - 1] == 7);
+  vialbluff_write(file, length, 2, text, sizeof text, out);
+  assert(is(out, 9, 0, 0, 0));
+
+  uint16_t starts[VIALBLUFF_PLACES];
+  vialbluff_best(file, length, 1000000, starts, out);
+  assert(is(out, 0, 0, 10, 3));
+  assert(starts[0] == 0 && starts[1] == ABSENT && starts[2] == ABSENT && starts[3] == 4 && starts[4] == 4);
+  vialbluff_check(file, length, 0, starts, out);
+  assert(is(out, 0, 1, 0, 0));
+  starts[4] = 3;
+  vialbluff_check(file, length, 0, starts, out);
+  assert(is(out, 0, 0, 0, 0));
+
+  vialbluff_count(file, length, 3, out);
+  assert(is(out, 0, 3, 0, 0));
+  vialbluff_count(file, length, 2, out);
+  assert(is(out, 7, 0, 0, 0));
+
+  uint16_t area[CELLS];
+  memset(area, 7, sizeof area);
+  const uint16_t untouched = area[0];
+  vialbluff_list(file, length, 3, area, 17, out);
+  assert(is(out, 8, 18, 0, 0) && area[0] == untouched);
+  vialbluff_list(file, length, 3, area, CELLS, out);
+  assert(is(out, 0, 3, 0, 0) && area[17] != untouched && area[18] == untouched);
+  return 0;
+}
