@@ -13,7 +13,8 @@ use lib.Seq.{take-all, drop-cons, drop-length}
 use Rattle.plan.specs.Limits.{between}
 use Rattle.plan.specs.Plan.{every}
 use Rattle.format.specs.Lines.{isDigit, decimal}
-use Rattle.format.proofs.Tests.{by-test, chosen-first, chosen-second, both, first, second, between-facts, facts-between}
+use Rattle.bools.proofs.Bools.{by-bool, both, and-left, and-right}
+use Rattle.format.proofs.Tests.{chosen-first, chosen-second, between-facts, facts-between}
 use Rattle.timetable.specs.Mark.{mark, places}
 use Rattle.timetable.specs.declared.Timetable.{Timetable}
 use Rattle.arguments.specs.declared.Number.{Number}
@@ -83,14 +84,14 @@ module _ (w : List ℕ) (sized : Bool) (is-sized : sized ≡ isSized (length w) 
 
   pub few : sized ≡ true → length w ≤ 10
   few e =
-      let fits = first (between 1 10 (length w)) (eqb (length w) 1 || not (eqb (getD w 0 0) 48)) (sym is-sized ∙ e) in
+      let fits = and-left (between 1 10 (length w)) (eqb (length w) 1 || not (eqb (getD w 0 0) 48)) (sym is-sized ∙ e) in
       between-facts 1 10 (length w) fits .1
 
   module _ (e : sized ≡ true) (v : ℕ) (is : v ≡ valueIn w) where
     pub a-number : v < 2 ^ 32 → Value v ≡ numberIn w
     unfolding numberIn isNumber valueIn
     a-number h =
-        by-test (every isDigit w)
+        by-bool (every isDigit w)
         (λ d.
         let value : v ≡ decimal 0 w = is ∙ chosen-first (decimal 0 w) (2 ^ 32) d in
         let small : ltb (decimal 0 w) (2 ^ 32) ≡ true = lt-ltb (decimal 0 w) (2 ^ 32) (omega arith) in
@@ -100,7 +101,7 @@ module _ (w : List ℕ) (sized : Bool) (is-sized : sized ≡ isSized (length w) 
     pub too-large : 2 ^ 32 ≤ v → NoNumber ≡ numberIn w
     unfolding numberIn isNumber valueIn
     too-large h =
-        by-test (every isDigit w)
+        by-bool (every isDigit w)
         (λ d.
         let value : v ≡ decimal 0 w = is ∙ chosen-first (decimal 0 w) (2 ^ 32) d in
         let large : ltb (decimal 0 w) (2 ^ 32) ≡ false = le-ltb (decimal 0 w) (2 ^ 32) (omega arith) in
@@ -136,12 +137,12 @@ a-start i t h l = sym (chosen-first {b =
 
 startAt-within : (i t i′ t′ : ℕ) → startAt i t ≡ At i′ t′ → (i′ < places) × (t′ < mark)
 startAt-within i t i′ t′ e =
-    by-test (ltb i places && ltb t mark)
+    by-bool (ltb i places && ltb t mark)
     (λ b.
     let same : At i t ≡ At i′ t′ = sym (chosen-first (At i t) NoStart b) ∙ e in
     let is : i ≡ i′ = cc in
     let at : t ≡ t′ = cc in
-    (rw (← is) (ltb-true i places (first (ltb i places) (ltb t mark) b)), rw (← at) (ltb-true t mark (second (ltb i places) (ltb t mark) b))))
+    (rw (← is) (ltb-true i places (and-left (ltb i places) (ltb t mark) b)), rw (← at) (ltb-true t mark (and-right (ltb i places) (ltb t mark) b))))
     (λ b. let no-start : NoStart ≡ At i′ t′ = sym (chosen-second (At i t) NoStart b) ∙ e in let z : _≡_ {A = ℕ} 0 1 = cc in absurd (omega arith))
 
 startBy-within : (a b : Number) (i t : ℕ) → startBy a b ≡ At i t → (i < places) × (t < mark)
@@ -154,7 +155,7 @@ pub start-within : (w : List ℕ) (i t : ℕ) → startIn w ≡ At i t → (i < 
 unfolding startIn
 start-within w i t e =
     let parts : Start = startBy (numberIn (take (comma w) w)) (numberIn (drop (comma w + 1) w)) in
-    by-test (ltb (comma w) (length w))
+    by-bool (ltb (comma w) (length w))
     (λ b. startBy-within (numberIn (take (comma w) w)) (numberIn (drop (comma w + 1) w)) i t (sym (chosen-first parts NoStart b) ∙ e))
     (λ b. let no-start : NoStart ≡ At i t = sym (chosen-second parts NoStart b) ∙ e in let z : _≡_ {A = ℕ} 0 1 = cc in absurd (omega arith))
 

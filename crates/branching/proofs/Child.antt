@@ -8,7 +8,7 @@ use mathlib.Core.Logic.{_≢_, inl, inr, ⊎-elim, by-cases}
 use borrow.Author.Tests.{eq-eqb, ne-eqb}
 use Rattle.schedule.specs.Project.{Project}
 use Rattle.schedule.specs.Schedule.{Starts, endOf, moved}
-use Rattle.schedule.proofs.Below.{true-not-false}
+use Rattle.bools.proofs.Bools.{true-not-false}
 use Rattle.schedule.proofs.Load.{Has, among, moved-same, moved-other}
 use Rattle.schedule.proofs.Reflect.{Feasible}
 use Rattle.schedule.proofs.Device.{Bench, Apart, InWords, feasible-in-words}

@@ -9,7 +9,7 @@ use lib.Dec.{eqb}
 use borrow.Author.Tests.{eqb-true, eq-eqb, not-true}
 use Rattle.schedule.specs.Project.{Project}
 use Rattle.schedule.specs.Schedule.{Starts, endOf, moved}
-use Rattle.schedule.proofs.Below.{by-bool, true-not-false, both, and-left, and-right}
+use Rattle.bools.proofs.Bools.{by-bool, true-not-false, both, and-left, and-right}
 use Rattle.schedule.proofs.Load.{Has, among, moved-same, moved-other}
 use Rattle.schedule.proofs.Reflect.{Feasible, Active}
 use Rattle.schedule.proofs.Agree.{Agree}

@@ -11,7 +11,7 @@ use lib.ListN.{length}
 use Rattle.schedule.specs.Project.{Project}
 use Rattle.schedule.specs.Schedule.{Starts}
 use Rattle.schedule.specs.Sessions.{gather, startsOf, sessions}
-use Rattle.schedule.proofs.Below.{true-not-false}
+use Rattle.bools.proofs.Bools.{true-not-false}
 use Rattle.schedule.proofs.Load.{Has, among}
 use Rattle.schedule.proofs.Agree.{Agree}
 use Rattle.schedule.proofs.Device.{Bench}

@@ -10,7 +10,8 @@ use borrow.Author.Tests.{eqb-true, eq-eqb, not-true}
 use Rattle.schedule.specs.Below.{everyBelow, _implies_}
 use Rattle.schedule.specs.Project.{Project}
 use Rattle.schedule.specs.Schedule.{Starts, endOf, latestEnd, moved}
-use Rattle.schedule.proofs.Below.{by-bool, true-not-false, both, and-left, and-right, implies-elim, implies-fails, every-at, every-fails}
+use Rattle.bools.proofs.Bools.{by-bool, true-not-false, both, and-left, and-right}
+use Rattle.schedule.proofs.Below.{implies-elim, implies-fails, every-at, every-fails}
 use Rattle.schedule.proofs.Load.{Has, Sound, among, end-le, ends-least}
 use Rattle.schedule.proofs.Reflect.{Feasible, Active}
 use Rattle.schedule.proofs.Agree.{Agree, part-has}

@@ -5,7 +5,8 @@ use mathlib.Core.Bool.{true, cond, _&&_}
 use mathlib.Core.Path.{_≡_}
 use Rattle.schedule.specs.Below.{sumBelow}
 use Rattle.schedule.specs.Project.{Project}
-use Rattle.schedule.proofs.Below.{by-bool, both, and-left, and-right, cond-true, cond-false, cond-mono, sum-le-but}
+use Rattle.bools.proofs.Bools.{by-bool, both, and-left, and-right, cond-true, cond-false}
+use Rattle.schedule.proofs.Below.{cond-mono, sum-le-but}
 use Rattle.schedule.proofs.Load.{Has}
 use Rattle.branching.proofs.Node.{Ranked}
 

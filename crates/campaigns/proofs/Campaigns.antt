@@ -5,7 +5,7 @@ use mathlib.Core.Logic.{⊎-elim}
 use mathlib.Core.Path.{_≡_, refl, sym, ap, subst, _∙_}
 use lib.ListN.{length, drop}
 use Rattle.plan.specs.Plan.{every}
-use Rattle.format.proofs.Tests.{first, second}
+use Rattle.bools.proofs.Bools.{and-left, and-right}
 use Rattle.format.specs.Parse.{parse, planLines, aLine, theLines, theEnd}
 use Rattle.format.specs.Lines.{found, digits, isValue, decimal}
 use Rattle.term.specs.Term.{termOf, forest, place, size, firsts, others}
@@ -59,7 +59,7 @@ test-holds (lists s cap cells answer) e =
     ∙ ap (listModel s cap) size
     ∙ listing-same (listModel s cap cells) answer e
 test-holds (spans s v makespans) e =
-    spans-is s v makespans (first (hasModel s v) _ e) (list-same (spansModel s v) makespans (second (hasModel s v) _ e))
+    spans-is s v makespans (and-left (hasModel s v) _ e) (list-same (spansModel s v) makespans (and-right (hasModel s v) _ e))
 test-holds (finds s cap variants span count) e =
     λ best given. subst (λ x. AnswersAs x best) (shown-same (bestModel s cap) _ e) (best-is s cap best given)
 test-holds (stops s cap r) e =
@@ -73,8 +73,8 @@ every-of : (xs : List Row) → every test xs ≡ true → (row : Row) → List·
 every-of [] e row m = absurd (List·Memᴰ·not-nil m)
 every-of (x ∷ xs) e row m =
     ⊎-elim
-    (λ same. subst (λ (r : Row). test r ≡ true) (sym same) (first (test x) (every test xs) e))
-    (λ later. every-of xs (second (test x) (every test xs) e) row later)
+    (λ same. subst (λ (r : Row). test r ≡ true) (sym same) (and-left (test x) (every test xs) e))
+    (λ later. every-of xs (and-right (test x) (every test xs) e) row later)
     (List·Memᴰ·cases-cons m)
 
 pub campaigns : (row : Row) → List·Memᴰ row table → Holds row

@@ -12,7 +12,7 @@ use lib.Dec.{eqb, leb}
 use Rattle.plan.specs.Plan.{Plan}
 use Rattle.plan.specs.declared.Refusal.{Refusal}
 use Rattle.plan.specs.declared.Refusal.the-variants.{OverCap}
-use Rattle.format.proofs.Tests.{first, second}
+use Rattle.bools.proofs.Bools.{and-left, and-right}
 use Rattle.term.specs.Term.{Term}
 use Rattle.term.specs.Variants.{variantCount}
 use Rattle.timetable.specs.Mark.{places}
@@ -94,7 +94,7 @@ module _ (p : Plan) (t : Term) (valid : Valid p t) (v span : ℕ) (row : List �
 
   is-feasible : feasible (projectOf p (variantAt t v)) (startsOf row) ≡ true
   unfolding isSession
-  is-feasible = second (isMarked (variantAt t v) row) _ (shortest-checks p t valid v span row shortest)
+  is-feasible = and-right (isMarked (variantAt t v) row) _ (shortest-checks p t valid v span row shortest)
 
   -- and one of the variant's own is the same.
   own : List·Memᴰ span (spansOf p t v)
@@ -137,10 +137,10 @@ sameShown (refused r) (refused r′) = sameRefusal r r′
 
 pub shown-same : (a b : Shown) → sameShown a b ≡ true → a ≡ b
 shown-same (shown vs n k) (shown vs′ n′ k′) e =
-    let rest = second (sameList vs vs′) _ e in
-    let ev = list-same vs vs′ (first _ _ e) in
-    let en = eqb-true n n′ (first _ _ rest) in
-    let ek = eqb-true k k′ (second (eqb n n′) _ rest) in
+    let rest = and-right (sameList vs vs′) _ e in
+    let ev = list-same vs vs′ (and-left _ _ e) in
+    let en = eqb-true n n′ (and-left _ _ rest) in
+    let ek = eqb-true k k′ (and-right (eqb n n′) _ rest) in
     cc
 shown-same (shown vs n k) (refused r) e = absurd (false≢true e)
 shown-same (refused r) (shown vs n k) e = absurd (false≢true e)

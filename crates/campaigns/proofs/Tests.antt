@@ -11,7 +11,7 @@ use Rattle.plan.specs.declared.Refusal.{Refusal}
 use Rattle.plan.specs.declared.Refusal.the-variants.{Length, Form, Range, NotOneTerm, Twice, TooManyVariants, NoSuchVariant, OverCap, AreaTooShort}
 use Rattle.read.specs.declared.ReadAnswer.{ReadAnswer}
 use Rattle.read.specs.declared.ReadAnswer.the-variants.{Read, Refused}
-use Rattle.format.proofs.Tests.{first, second}
+use Rattle.bools.proofs.Bools.{and-left, and-right}
 use Rattle.write.specs.Answer.{Outcome}
 use Rattle.write.specs.declared.WriteAnswer.{WriteAnswer}
 use Rattle.write.specs.declared.WriteAnswer.the-variants as Write
@@ -66,8 +66,8 @@ sameRefusal a b = eqb (numberOf a) (numberOf b) && eqb (figureOf a) (figureOf b)
 -- A refusal is its number and its figure.
 pub refusal-same : (a b : Refusal) → sameRefusal a b ≡ true → a ≡ b
 refusal-same a b e =
-    let n = eqb-true (numberOf a) (numberOf b) (first _ _ e) in
-    let k = eqb-true (figureOf a) (figureOf b) (second (eqb (numberOf a) (numberOf b)) _ e) in
+    let n = eqb-true (numberOf a) (numberOf b) (and-left _ _ e) in
+    let k = eqb-true (figureOf a) (figureOf b) (and-right (eqb (numberOf a) (numberOf b)) _ e) in
     sym (refusal-is a) ∙ ap₂ refusalOf n k ∙ refusal-is b
 
 abbrev pub sameRead : ReadAnswer → ReadAnswer → Bool
@@ -78,10 +78,10 @@ sameRead (Refused r) (Refused r′) = sameRefusal r r′
 
 pub read-same : (a b : ReadAnswer) → sameRead a b ≡ true → a ≡ b
 read-same (Read n m v) (Read n′ m′ v′) e =
-    let rest = second (eqb n n′) _ e in
-    let en = eqb-true n n′ (first _ _ e) in
-    let em = eqb-true m m′ (first _ _ rest) in
-    let ev = eqb-true v v′ (second (eqb m m′) _ rest) in
+    let rest = and-right (eqb n n′) _ e in
+    let en = eqb-true n n′ (and-left _ _ e) in
+    let em = eqb-true m m′ (and-left _ _ rest) in
+    let ev = eqb-true v v′ (and-right (eqb m m′) _ rest) in
     cc
 read-same (Read n m v) (Refused r) e = absurd (false≢true e)
 read-same (Refused r) (Read n m v) e = absurd (false≢true e)
@@ -98,7 +98,7 @@ list-same [] [] e = refl
 list-same [] (y ∷ ys) e = absurd (false≢true e)
 list-same (x ∷ xs) [] e = absurd (false≢true e)
 list-same (x ∷ xs) (y ∷ ys) e =
-    ap₂ _∷_ (eqb-true x y (first _ _ e)) (list-same xs ys (second (eqb x y) _ e))
+    ap₂ _∷_ (eqb-true x y (and-left _ _ e)) (list-same xs ys (and-right (eqb x y) _ e))
 
 -- Several answers are a number or a refusal: they are compared as such, once.
 abbrev sameEither : ℕ ⊎ Refusal → ℕ ⊎ Refusal → Bool
@@ -140,8 +140,8 @@ sameOutcome a b = sameWrite (a .answer) (b .answer) && sameList (a .area) (b .ar
 
 pub outcome-same : (a b : Outcome) → sameOutcome a b ≡ true → a ≡ b
 outcome-same a b e =
-    let x = write-same (a .answer) (b .answer) (first _ _ e) in
-    let y = list-same (a .area) (b .area) (second (sameWrite (a .answer) (b .answer)) _ e) in
+    let x = write-same (a .answer) (b .answer) (and-left _ _ e) in
+    let y = list-same (a .area) (b .area) (and-right (sameWrite (a .answer) (b .answer)) _ e) in
     λ i. record { answer = x i; area = y i }
 
 abbrev pub sameCheck : CheckAnswer → CheckAnswer → Bool

@@ -10,7 +10,8 @@ use borrow.Author.Tests.{eqb-true, eq-eqb, ltb-true, lt-ltb}
 use Rattle.schedule.specs.Bounds.{work}
 use Rattle.schedule.specs.Project.{Project}
 use Rattle.schedule.specs.Schedule.{Starts}
-use Rattle.schedule.proofs.Below.{by-bool, both, and-left, and-right, cond-true, cond-false, cond-mono, sum-le-but}
+use Rattle.bools.proofs.Bools.{by-bool, both, and-left, and-right, cond-true, cond-false}
+use Rattle.schedule.proofs.Below.{cond-mono, sum-le-but}
 use Rattle.schedule.proofs.Load.{Has}
 use Rattle.sets.specs.Sets.{most}
 use Rattle.sets.proofs.Laws.{has-some}

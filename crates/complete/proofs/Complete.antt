@@ -10,7 +10,7 @@ use lib.Dec.{eqb}
 use borrow.Author.Tests.{eqb-true, eqb-false}
 use Rattle.schedule.specs.Project.{Project}
 use Rattle.schedule.specs.Sessions.{gather}
-use Rattle.schedule.proofs.Below.{by-bool}
+use Rattle.bools.proofs.Bools.{by-bool}
 use Rattle.schedule.proofs.Load.{Has}
 use Rattle.schedule.proofs.Device.{Bench}
 use Rattle.schedule.proofs.Lists.{gather-is, gather-mem}

@@ -9,7 +9,7 @@ use Rattle.schedule.specs.Below.{maxBelow}
 use Rattle.schedule.specs.Project.{Project}
 use Rattle.schedule.specs.Schedule.{Starts, makespan}
 use Rattle.schedule.specs.Sessions.{startsOf, sessions}
-use Rattle.schedule.proofs.Below.{true-not-false}
+use Rattle.bools.proofs.Bools.{true-not-false}
 use Rattle.schedule.proofs.Reflect.{Feasible, Active}
 use Rattle.schedule.proofs.Agree.{makespan-agree}
 use Rattle.schedule.proofs.Compact.{Shorter, compact-makespan}

@@ -10,7 +10,8 @@ use lib.Seq.{getD-set-same, getD-set-other}
 use borrow.Author.Tests.{eq-eqb, ne-eqb}
 use Rattle.schedule.specs.Project.{Project}
 use Rattle.schedule.specs.Schedule.{Starts}
-use Rattle.schedule.proofs.Below.{true-not-false, both, cond-true, cond-false, sum-le-but}
+use Rattle.bools.proofs.Bools.{true-not-false, both, cond-true, cond-false}
+use Rattle.schedule.proofs.Below.{sum-le-but}
 use Rattle.schedule.proofs.Load.{Has, moved-same, moved-other}
 use Rattle.schedule.proofs.Device.{Bench}
 use Rattle.sets.specs.Sets.{has}

@@ -13,7 +13,8 @@ use Rattle.schedule.specs.Below.{maxBelow}
 use Rattle.schedule.specs.Project.{Project}
 use Rattle.schedule.specs.Schedule.{endOf, latestEnd, makespan}
 use Rattle.schedule.specs.Sessions.{gather, startsOf}
-use Rattle.schedule.proofs.Below.{by-bool, cond-true, cond-false, max-term, max-least}
+use Rattle.bools.proofs.Bools.{by-bool, cond-true, cond-false}
+use Rattle.schedule.proofs.Below.{max-term, max-least}
 use Rattle.schedule.proofs.Load.{Has, end-le, ends-least}
 use Rattle.schedule.proofs.Reflect.{Active}
 use Rattle.schedule.proofs.Agree.{Agree, Active-agree, latest-agree}

@@ -14,7 +14,7 @@ use lib.Dec.{eqb}
 use borrow.Author.Tests.{eqb-false}
 use lib.Seq.{getD-append-seam}
 use Rattle.schedule.specs.Sessions.{gather}
-use Rattle.schedule.proofs.Below.{by-bool, true-not-false, and-left, and-right}
+use Rattle.bools.proofs.Bools.{by-bool, true-not-false, and-left, and-right}
 use Rattle.sets.specs.Sets.{has, meet}
 use Rattle.sets.proofs.Laws.{has-some, has-and}
 use Rattle.scan.proofs.Model.{leastBelow, never}

@@ -12,7 +12,8 @@ use Rattle.schedule.specs.Below.{sumBelow, maxBelow}
 use Rattle.schedule.specs.Bounds.{work}
 use Rattle.schedule.specs.Project.{Project}
 use Rattle.schedule.specs.Schedule.{Starts, endOf}
-use Rattle.schedule.proofs.Below.{by-bool, true-not-false, both, and-left, and-right, not-both, cond-true, cond-false, sum-const, max-term, max-least}
+use Rattle.bools.proofs.Bools.{by-bool, true-not-false, both, and-left, and-right, not-both, cond-true, cond-false}
+use Rattle.schedule.proofs.Below.{sum-const, max-term, max-least}
 use Rattle.schedule.proofs.Load.{Has}
 use Rattle.sets.specs.Sets.{most, has, meet}
 use Rattle.sets.proofs.Laws.{meet-not}

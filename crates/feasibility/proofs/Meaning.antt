@@ -18,7 +18,8 @@ use Rattle.schedule.specs.Below.{everyBelow, _implies_}
 use Rattle.schedule.specs.Project.{Project}
 use Rattle.schedule.specs.Schedule.{Starts, endOf, feasible}
 use Rattle.schedule.specs.Sessions.{startsOf}
-use Rattle.schedule.proofs.Below.{true-not-false, same-bool, both, and-left, and-right, implies-elim, implies-intro, every-at, every-of}
+use Rattle.bools.proofs.Bools.{true-not-false, same-bool, both, and-left, and-right}
+use Rattle.schedule.proofs.Below.{implies-elim, implies-intro, every-at, every-of}
 use Rattle.schedule.proofs.Load.{Has}
 use Rattle.schedule.proofs.Device.{InWords}
 use Rattle.variant.specs.Project.{activityAt, projectOf}

@@ -39,7 +39,8 @@ use Rattle.format.specs.Parse.{
   refuses,
   parse,
 }
-use Rattle.format.proofs.Tests.{by-test, chosen-first, chosen-second, between-facts}
+use Rattle.bools.proofs.Bools.{by-bool}
+use Rattle.format.proofs.Tests.{chosen-first, chosen-second, between-facts}
 use Rattle.format.proofs.Readers.{stopped, then-read, both-read}
 use Rattle.format.proofs.Plans.{Sound, plan-sound, sound-plan}
 use Rattle.format.proofs.PlanLines.{edition-line, resources-line, acts-line, act-lines, nodes-line, node-lines}
@@ -117,7 +118,7 @@ held (stop r) p e = let z : _≡_ {A = ℕ} 0 1 = cc in absurd (omega arith)
 parsed-lines : (s : List ℕ) (p : Plan) → parse s ≡ holds p → (line : ℕ) × (rest : List ℕ) × (planLines 1 s ≡ read p line rest)
 unfolding parse
 parsed-lines s p e =
-    by-test (isTooLong s)
+    by-bool (isTooLong s)
     (λ t.
     let refused : refuses Length ≡ holds p = sym (chosen-first _ _ t) ∙ e in
     let z : _≡_ {A = ℕ} 0 1 = cc in

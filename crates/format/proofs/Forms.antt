@@ -12,7 +12,8 @@ use lib.Seq.{drop-append-seam}
 use Rattle.plan.specs.Limits.{mostDigits}
 use Rattle.plan.specs.Plan.{isLetter}
 use Rattle.format.specs.Lines.{isDigit, digits, isValue, decimal, written, Found, with-value, found, filled}
-use Rattle.format.proofs.Tests.{by-test, chosen-second, both, first, second}
+use Rattle.bools.proofs.Bools.{by-bool, both, and-left, and-right}
+use Rattle.format.proofs.Tests.{chosen-second}
 use Rattle.format.proofs.Laws.{
   digits-digits,
   digits-prefix,
@@ -103,9 +104,9 @@ Counts form = (vs : List ℕ) → fitting form vs ≡ true → length vs ≡ slo
 counts : {b : ℕ} → Kind b → (form : List ℕ) → Counts form → Counts (b ∷ form)
 unfolding fitting
 counts value form others [] fit = absurd (false≢true fit)
-counts value form others (v ∷ vs) fit = ap suc (others vs (second (isShort v) (fitting form vs) fit))
+counts value form others (v ∷ vs) fit = ap suc (others vs (and-right (isShort v) (fitting form vs) fit))
 counts letter form others [] fit = absurd (false≢true fit)
-counts letter form others (v ∷ vs) fit = ap suc (others vs (second (isLetter v) (fitting form vs) fit))
+counts letter form others (v ∷ vs) fit = ap suc (others vs (and-right (isLetter v) (fitting form vs) fit))
 counts (literal {b} p q) form others vs fit =
     let neither : (eqb b 35 || eqb b 64) ≡ false = rw (p, q) in
     others vs (rw (fitting-literal form vs b p q) at fit) ∙ sym (chosen-second _ _ neither)
@@ -126,14 +127,14 @@ finds value form rest ok others [] fit = absurd (false≢true fit)
 finds value form rest ok others (v ∷ vs) fit =
     rw (filled-value form (v ∷ vs), append-assoc (written mostDigits v) (filled form vs) rest)
     (found-written form (filled form vs ++ rest) v
-    (ltb-true v (10 ^ mostDigits) (first (isShort v) (fitting form vs) fit))
-    (ends-value form vs rest (first (isPlain (getD form 0 35)) (isForm form) ok))
-    ∙ rw (others vs (second (isShort v) (fitting form vs) fit)))
+    (ltb-true v (10 ^ mostDigits) (and-left (isShort v) (fitting form vs) fit))
+    (ends-value form vs rest (and-left (isPlain (getD form 0 35)) (isForm form) ok))
+    ∙ rw (others vs (and-right (isShort v) (fitting form vs) fit)))
 finds letter form rest ok others [] fit = absurd (false≢true fit)
 finds letter form rest ok others (v ∷ vs) fit =
     rw (filled-letter form (v ∷ vs))
-    (found-a-letter form (filled form vs ++ rest) v (first (isLetter v) (fitting form vs) fit)
-    ∙ rw (others vs (second (isLetter v) (fitting form vs) fit)))
+    (found-a-letter form (filled form vs ++ rest) v (and-left (isLetter v) (fitting form vs) fit)
+    ∙ rw (others vs (and-right (isLetter v) (fitting form vs) fit)))
 finds (literal {b} p q) form rest ok others vs fit =
     rw (filled-literal form vs b p q)
     (found-a-literal form (filled form vs ++ rest) b p q ∙ others vs (rw (fitting-literal form vs b p q) at fit))
@@ -144,7 +145,7 @@ unfolding fitting found filled
 found-filled [] [] rest ok fit = refl
 found-filled [] (v ∷ vs) rest ok fit = absurd (omega (arith, eqb-true (suc (length vs)) 0 fit))
 found-filled (b ∷ form) vs rest ok fit =
-    finds (kind b) form rest ok (λ ws fit′. found-filled form ws rest (second (not (eqb b 35) || isPlain (getD form 0 35)) (isForm form) ok) fit′) vs fit
+    finds (kind b) form rest ok (λ ws fit′. found-filled form ws rest (and-right (not (eqb b 35) || isPlain (getD form 0 35)) (isForm form) ok) fit′) vs fit
 
 -- What is found was filled in.
 pub record Filled (form s : List ℕ) (f : Found) : Type 0 where
@@ -184,7 +185,7 @@ after-literal form (c ∷ s) g b p q e m =
     record {
       bytes =
           rw (filled-literal form (g .values) b p q)
-          (ap₂ (λ x t. x ∷ t) (eqb-true c b (second (ltb 0 (suc (length s))) (eqb c b) e)) (m .bytes));
+          (ap₂ (λ x t. x ∷ t) (eqb-true c b (and-right (ltb 0 (suc (length s))) (eqb c b) e)) (m .bytes));
       fits = rw (fitting-literal form (g .values) b p q) (m .fits);
     }
 
@@ -196,21 +197,21 @@ nothing {f} p q = absurd (Option·none-ne-some f (sym p ∙ q))
 
 fills : {b : ℕ} → Kind b → (form : List ℕ) → Fills form → Fills (b ∷ form)
 fills value form others s f e =
-    by-test (isValue (digits s))
+    by-bool (isValue (digits s))
     (λ v.
     with-some (Filled (35 ∷ form) s) _ (found form (drop (length (digits s)) s)) f
     (λ g q. after-value form s g v (others _ g q))
     (sym (found-value form s v) ∙ e))
     (λ v. nothing (found-no-value form s v) e)
 fills letter form others s f e =
-    by-test (isLetter (getD s 0 0))
+    by-bool (isLetter (getD s 0 0))
     (λ v.
     with-some (Filled (64 ∷ form) s) _ (found form (drop 1 s)) f
     (λ g q. after-letter form s g v (others _ g q))
     (sym (found-letter form s v) ∙ e))
     (λ v. nothing (found-no-letter form s v) e)
 fills (literal {b} p q) form others s f e =
-    by-test (ltb 0 (length s) && eqb (getD s 0 0) b)
+    by-bool (ltb 0 (length s) && eqb (getD s 0 0) b)
     (λ v. after-literal form s f b p q v (others (drop 1 s) f (sym (found-literal form s b p q v) ∙ e)))
     (λ v. nothing (found-no-literal form s b p q v) e)
 

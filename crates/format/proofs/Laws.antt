@@ -10,7 +10,8 @@ use lib.ListN.{length, getD, drop}
 use Rattle.plan.specs.Limits.{mostDigits}
 use Rattle.plan.specs.Plan.{isLetter, every}
 use Rattle.format.specs.Lines.{isDigit, digits, isValue, decimal, written, with-value, found, filled}
-use Rattle.format.proofs.Tests.{by-test, choose, chosen-first, chosen-second, both, first, second}
+use Rattle.bools.proofs.Bools.{by-bool, both, and-left, and-right}
+use Rattle.format.proofs.Tests.{choose, chosen-first, chosen-second}
 
 -- The digits at the front.
 pub digits-some : (b : ℕ) (s : List ℕ) → isDigit b ≡ true → digits (b ∷ s) ≡ b ∷ digits s
@@ -30,29 +31,29 @@ pub digits-digits : (s : List ℕ) → every isDigit (digits s) ≡ true
 unfolding digits
 digits-digits [] = refl
 digits-digits (b ∷ s) =
-    by-test (isDigit b)
+    by-bool (isDigit b)
     (λ e. rw (digits-some b s e) (both e (digits-digits s)))
     (λ e. rw (digits-none b s e))
 
 pub digits-prefix : (s : List ℕ) → s ≡ digits s ++ drop (length (digits s)) s
 digits-prefix [] = rw digits-nil
 digits-prefix (b ∷ s) =
-    by-test (isDigit b)
+    by-bool (isDigit b)
     (λ e. rw (digits-some b s e) (ap (λ t. b ∷ t) (digits-prefix s)))
     (λ e. rw (digits-none b s e))
 
 pub digits-end : (s : List ℕ) → isDigit (getD (drop (length (digits s)) s) 0 0) ≡ false
 digits-end [] = rw digits-nil
 digits-end (b ∷ s) =
-    by-test (isDigit b) (λ e. rw (digits-some b s e) (digits-end s)) (λ e. rw (digits-none b s e) e)
+    by-bool (isDigit b) (λ e. rw (digits-some b s e) (digits-end s)) (λ e. rw (digits-none b s e) e)
 
 -- Digits are found whole before what is empty or begins with no digit.
 pub digits-whole : (ds s : List ℕ) → every isDigit ds ≡ true → isDigit (getD s 0 0) ≡ false → digits (ds ++ s) ≡ ds
 digits-whole [] [] e n = digits-nil
 digits-whole [] (b ∷ s) e n = digits-none b s n
 digits-whole (d ∷ ds) s e n =
-    digits-some d (ds ++ s) (first (isDigit d) (every isDigit ds) e)
-    ∙ ap (λ t. d ∷ t) (digits-whole ds s (second (isDigit d) (every isDigit ds) e) n)
+    digits-some d (ds ++ s) (and-left (isDigit d) (every isDigit ds) e)
+    ∙ ap (λ t. d ∷ t) (digits-whole ds s (and-right (isDigit d) (every isDigit ds) e) n)
 
 -- A form's byte: `#`, `@`, or one that stands for itself.
 pub data Kind : ℕ → Type 0 where
@@ -62,9 +63,9 @@ pub data Kind : ℕ → Type 0 where
 
 pub kind : (b : ℕ) → Kind b
 kind b =
-    by-test (eqb b 35)
+    by-bool (eqb b 35)
     (λ e. rw (eqb-true b 35 e) value)
-    (λ e. by-test (eqb b 64) (λ q. rw (eqb-true b 64 q) letter) (λ q. literal e q))
+    (λ e. by-bool (eqb b 64) (λ q. rw (eqb-true b 64 q) letter) (λ q. literal e q))
 
 pub found-nil : (s : List ℕ) → found [] s ≡ some (record { values = []; rest = s })
 unfolding found

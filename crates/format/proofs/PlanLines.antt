@@ -23,7 +23,8 @@ use Rattle.plan.specs.Plan.{Activity, Node, letterOf, valueOf, isLetter, isActi
 use Rattle.format.specs.Lines.{filled}
 use Rattle.format.specs.Text.{actLines, nodeLines}
 use Rattle.format.specs.Parse.{aLine, theLines, number, activity-of, node-of}
-use Rattle.format.proofs.Tests.{both, first, between-facts}
+use Rattle.bools.proofs.Bools.{both, and-left}
+use Rattle.format.proofs.Tests.{between-facts}
 use Rattle.format.proofs.Plans.{
   resource-below,
   duration-between,
@@ -98,7 +99,7 @@ act-line r h =
 letter-first : (vs : List ℕ) → fitting nodeForm vs ≡ true → isLetter (getD vs 0 0) ≡ true
 unfolding fitting
 letter-first [] fit = absurd (false≢true fit)
-letter-first (v ∷ vs) fit = first _ _ fit
+letter-first (v ∷ vs) fit = and-left _ _ fit
 
 pub node-line : (n : ℕ) → n ≤ 24
     → Exact (aLine nodeForm node-of (isNode n)) nodeLine (λ m. isNode n m ≡ true)

@@ -24,7 +24,8 @@ use Rattle.plan.specs.Plan.{
   every,
   isPlan,
 }
-use Rattle.format.proofs.Tests.{by-test, both, first, second, between-facts}
+use Rattle.bools.proofs.Bools.{by-bool, both, and-left, and-right}
+use Rattle.format.proofs.Tests.{between-facts}
 
 pub record Sound (p : Plan) : Type 0 where
   pub resources : isResourceCount (p .resources) ≡ true
@@ -60,10 +61,10 @@ module _ (p : Plan) where
 
 module _ (r : ℕ) (a : Activity) (e : isActivity r a ≡ true) where
   pub resource-below : a .resource < r
-  resource-below = ltb-true (a .resource) r (first (ltb (a .resource) r) (isDuration (a .duration)) e)
+  resource-below = ltb-true (a .resource) r (and-left (ltb (a .resource) r) (isDuration (a .duration)) e)
 
   pub duration-between : (1 ≤ a .duration) × (a .duration ≤ 2000)
-  duration-between = between-facts 1 2000 (a .duration) (second (ltb (a .resource) r) (isDuration (a .duration)) e)
+  duration-between = between-facts 1 2000 (a .duration) (and-right (ltb (a .resource) r) (isDuration (a .duration)) e)
 
 pub number-most : (n : ℕ) (m : Node) → n ≤ 24 → isNode n m ≡ true → valueOf m ≤ 63
 number-most n (activity i) h e = omega (arith, ltb-true i n e)
@@ -93,9 +94,9 @@ pub data Letter : ℕ → Type 0 where
 
 pub letter-cases : (b : ℕ) → isLetter b ≡ true → Letter b
 letter-cases b e =
-    by-test (eqb b 97) (λ q. rw (eqb-true b 97 q) a) λ q₁.
-    by-test (eqb b 115) (λ q. rw (eqb-true b 115 q) s) λ q₂.
-    by-test (eqb b 112) (λ q. rw (eqb-true b 112 q) p) λ q₃.
+    by-bool (eqb b 97) (λ q. rw (eqb-true b 97 q) a) λ q₁.
+    by-bool (eqb b 115) (λ q. rw (eqb-true b 115 q) s) λ q₂.
+    by-bool (eqb b 112) (λ q. rw (eqb-true b 112 q) p) λ q₃.
     rw (eqb-true b 120 (rw (q₁, q₂, q₃) at e)) x
 
 pub letter-same : {b : ℕ} → Letter b → (v : ℕ) → letterOf (nodeOf b v) ≡ b

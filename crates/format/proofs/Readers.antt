@@ -11,7 +11,8 @@ use Rattle.plan.specs.declared.Refusal.{Refusal}
 use Rattle.plan.specs.declared.Refusal.the-variants.{Form, Range}
 use Rattle.format.specs.Lines.{Found, found, filled}
 use Rattle.format.specs.Parse.{Outcome, read, stop, Reader, aLine, theLines}
-use Rattle.format.proofs.Tests.{by-test, choose, chosen-first, chosen-second, both, first, second}
+use Rattle.bools.proofs.Bools.{by-bool, both, and-left, and-right}
+use Rattle.format.proofs.Tests.{choose, chosen-first, chosen-second}
 use Rattle.format.proofs.Forms.{isForm, fitting, found-filled, Filled, filled-found}
 
 pub stopped : {A : Type 0} {r : Refusal} {a : A} {line : ℕ} {s : List ℕ} → stop r ≡ read a line s → ⊥
@@ -58,7 +59,7 @@ module _ {A : Type 0} (form : List ℕ) (make : List ℕ → A) (ok : A → Bool
           → (ok a ≡ true) × (s ≡ filled form (values a) ++ s′)
       says line s a line′ s′ none q e = absurd (stopped e)
       says line s a line′ s′ (some f) q e =
-          by-test (ok (make (f .values)))
+          by-bool (ok (make (f .values)))
           (λ v.
           let m : Filled form s f = filled-found form s f q in
           let e′ : read (make (f .values)) (line + 1) (f .rest) ≡ read a line′ s′ = sym (chosen-first _ _ v) ∙ e in
@@ -97,8 +98,8 @@ module _ {A : Type 0} {reader : Reader A} {write : A → List ℕ} {writes : Lis
     lines-read zero (x ∷ xs) line s k = absurd (omega arith)
     lines-read (suc n) [] line s k = absurd (omega arith)
     lines-read (suc n) (x ∷ xs) line s k =
-        let (line₁, here) = exact .reads x line (writes xs ++ s) (first (ok x) (every ok xs) (k .1)) in
-        let (line₂, there) = lines-read n xs line₁ s (omega arith, second (ok x) (every ok xs) (k .1)) in
+        let (line₁, here) = exact .reads x line (writes xs ++ s) (and-left (ok x) (every ok xs) (k .1)) in
+        let (line₂, there) = lines-read n xs line₁ s (omega arith, and-right (ok x) (every ok xs) (k .1)) in
         (line₂, rw (joined .cons x xs, append-assoc) (then-read _ here ∙ then-read _ there))
 
     lines-wrote : (n line : ℕ) (s : List ℕ) (xs : List A) (line′ : ℕ) (s′ : List ℕ) → theLines n reader line s ≡ read xs line′ s′

@@ -20,7 +20,8 @@ use Rattle.plan.specs.Limits.{
 use Rattle.plan.specs.Plan.{Activity, Node, Plan, letterOf, valueOf, isActivity, isNode, every, isPlan}
 use Rattle.format.specs.Lines.{written, filled}
 use Rattle.format.specs.Text.{text}
-use Rattle.format.proofs.Tests.{first, second, between-facts}
+use Rattle.bools.proofs.Bools.{and-left, and-right}
+use Rattle.format.proofs.Tests.{between-facts}
 use Rattle.format.proofs.Laws.{Kind, value, letter, literal, kind, filled-value, filled-letter, filled-literal}
 use Rattle.format.proofs.Values.{by-size, written-one, written-more, written-some}
 use Rattle.format.proofs.Readers.{Joined}
@@ -117,7 +118,7 @@ module _ {A : Type 0} {write : A → List ℕ} {writes : List A → List ℕ} (j
     lines-short (x ∷ xs) e =
         rw (joined .cons x xs, suc-mul)
         (simp length-append
-        (omega (arith, fits x (first (ok x) (every ok xs) e), lines-short xs (second (ok x) (every ok xs) e))))
+        (omega (arith, fits x (and-left (ok x) (every ok xs) e), lines-short xs (and-right (ok x) (every ok xs) e))))
 
 module _ (p : Plan) (ok : isPlan p ≡ true) where
   pub text-short : length (text p) ≤ longest

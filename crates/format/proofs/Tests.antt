@@ -8,13 +8,9 @@ use native.Mathlib.Omega.{arith}
 use borrow.Author.Tests.{leb-true, le-leb}
 use lib.Dec.{leb}
 use lib.ListN.{length, getD}
+use Rattle.bools.proofs.Bools.{both, and-left, and-right}
 use Rattle.plan.specs.Limits.{between}
 use Rattle.plan.specs.Plan.{every}
-
--- By whether a test holds.
-pub by-test {ℓ} : {C : Type ℓ} (b : Bool) → (b ≡ true → C) → (b ≡ false → C) → C
-by-test true yes′ no′ = yes′ refl
-by-test false yes′ no′ = no′ refl
 
 -- A test decides between two.
 abbrev pub choose {ℓ} : {A : Type ℓ} → Bool → A → A → A
@@ -26,17 +22,8 @@ chosen-first x y e = ap (λ t. choose t x y) e
 pub chosen-second {ℓ} : {A : Type ℓ} {b : Bool} (x y : A) → b ≡ false → choose b x y ≡ y
 chosen-second x y e = ap (λ t. choose t x y) e
 
-pub both : {a b : Bool} → a ≡ true → b ≡ true → (a && b) ≡ true
-both {a} {b} p q = and-eq-true-iff a b .1 (p, q)
-
-pub first : (a b : Bool) → (a && b) ≡ true → a ≡ true
-first a b e = and-eq-true-iff a b .0 e .0
-
-pub second : (a b : Bool) → (a && b) ≡ true → b ≡ true
-second a b e = and-eq-true-iff a b .0 e .1
-
 pub between-facts : (low high n : ℕ) → between low high n ≡ true → (low ≤ n) × (n ≤ high)
-between-facts low high n e = (leb-true low n (first (leb low n) (leb n high) e), leb-true n high (second (leb low n) (leb n high) e))
+between-facts low high n e = (leb-true low n (and-left (leb low n) (leb n high) e), leb-true n high (and-right (leb low n) (leb n high) e))
 
 pub facts-between : (low high n : ℕ) → low ≤ n → n ≤ high → between low high n ≡ true
 facts-between low high n h k = both (le-leb low n h) (le-leb n high k)
@@ -48,8 +35,8 @@ module _ {ℓ} {A : Type ℓ} (f : A → Bool) where
 
   pub every-at : (xs : List A) (i : ℕ) (d : A) → every f xs ≡ true → i < length xs → f (getD xs i d) ≡ true
   every-at [] i d e h = absurd (not-suc-le-zero h)
-  every-at (x ∷ xs) zero d e h = first (f x) (every f xs) e
-  every-at (x ∷ xs) (suc i) d e h = every-at xs i d (second (f x) (every f xs) e) (le-of-suc-le-suc h)
+  every-at (x ∷ xs) zero d e h = and-left (f x) (every f xs) e
+  every-at (x ∷ xs) (suc i) d e h = every-at xs i d (and-right (f x) (every f xs) e) (le-of-suc-le-suc h)
 
   pub every-of : (xs : List A) (d : A) → ((i : ℕ) → i < length xs → f (getD xs i d) ≡ true) → every f xs ≡ true
   every-of [] d h = refl
@@ -57,4 +44,4 @@ module _ {ℓ} {A : Type ℓ} (f : A → Bool) where
 
   pub every-weaker : (g : A → Bool) → ((x : A) → f x ≡ true → g x ≡ true) → (xs : List A) → every f xs ≡ true → every g xs ≡ true
   every-weaker g h [] e = refl
-  every-weaker g h (x ∷ xs) e = both (h x (first (f x) (every f xs) e)) (every-weaker g h xs (second (f x) (every f xs) e))
+  every-weaker g h (x ∷ xs) e = both (h x (and-left (f x) (every f xs) e)) (every-weaker g h xs (and-right (f x) (every f xs) e))

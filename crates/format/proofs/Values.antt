@@ -11,17 +11,8 @@ use lib.ListN.{length, getD, length-append, List·getD-append}
 use Rattle.plan.specs.Limits.{between, mostDigits}
 use Rattle.plan.specs.Plan.{every}
 use Rattle.format.specs.Lines.{isDigit, digits, isValue, decimal, written}
-use Rattle.format.proofs.Tests.{
-  by-test,
-  chosen-first,
-  chosen-second,
-  both,
-  first,
-  second,
-  between-facts,
-  facts-between,
-  every-append,
-}
+use Rattle.bools.proofs.Bools.{by-bool, both, and-left, and-right}
+use Rattle.format.proofs.Tests.{chosen-first, chosen-second, between-facts, facts-between, every-append}
 use Rattle.format.proofs.Laws.{digits-whole}
 
 -- `written` and `decimal` by their last digit.
@@ -39,7 +30,7 @@ decimal-last n [] b = refl
 decimal-last n (d ∷ ds) b = decimal-last (n * 10 + (d - 48)) ds b
 
 pub by-size {ℓ} : {C : Type ℓ} (n : ℕ) → (n < 10 → C) → (10 ≤ n → C) → C
-by-size n small large = by-test (ltb n 10) (λ e. small (ltb-true n 10 e)) (λ e. large (ltb-false n 10 e))
+by-size n small large = by-bool (ltb n 10) (λ e. small (ltb-true n 10 e)) (λ e. large (ltb-false n 10 e))
 
 -- A number's digits are digits.
 pub digit-facts : (b : ℕ) → isDigit b ≡ true → (48 ≤ b) × (b ≤ 57)
@@ -132,8 +123,8 @@ decimal-below j n [] h e = rw (add-zero j) h
 decimal-below j n (d ∷ ds) h e =
     rw (add-suc j (length ds), ← suc-add j (length ds))
     (decimal-below (suc j) (n * 10 + (d - 48)) ds
-    (omega (arith, pow-suc 10 j, digit-facts d (first (isDigit d) (every isDigit ds) e)))
-    (second (isDigit d) (every isDigit ds) e))
+    (omega (arith, pow-suc 10 j, digit-facts d (and-left (isDigit d) (every isDigit ds) e)))
+    (and-right (isDigit d) (every isDigit ds) e))
 
 written-digit : (k b : ℕ) → isDigit b ≡ true → written (suc k) (decimal 0 (b ∷ [])) ≡ b ∷ []
 unfolding decimal
@@ -157,19 +148,19 @@ written-decimal :
     → written k (decimal 0 ds) ≡ ds
 written-decimal zero (one b) l e h = absurd (omega arith)
 written-decimal zero (more d ds b) l e h = absurd (omega arith)
-written-decimal (suc k) (one b) l e h = written-digit k b (first (isDigit b) true e)
+written-decimal (suc k) (one b) l e h = written-digit k b (and-left (isDigit b) true e)
 written-decimal (suc k) (more d ds b) l e h =
     let split : (every isDigit (d ∷ ds) && (isDigit b && true)) ≡ true = rw (every-append isDigit (d ∷ ds) (b ∷ [])) at e in
-    let front : every isDigit (d ∷ ds) ≡ true = first (every isDigit (d ∷ ds)) (isDigit b && true) split in
-    let last : isDigit b ≡ true = first (isDigit b) true (second (every isDigit (d ∷ ds)) (isDigit b && true) split) in
+    let front : every isDigit (d ∷ ds) ≡ true = and-left (every isDigit (d ∷ ds)) (isDigit b && true) split in
+    let last : isDigit b ≡ true = and-left (isDigit b) true (and-right (every isDigit (d ∷ ds)) (isDigit b && true) split) in
     rw (decimal-last 0 (d ∷ ds) b)
-    (written-next k (decimal 0 (d ∷ ds)) b (lead-positive d ds (first (isDigit d) (every isDigit ds) front) h) last
+    (written-next k (decimal 0 (d ∷ ds)) b (lead-positive d ds (and-left (isDigit d) (every isDigit ds) front) h) last
     ∙ rw (written-decimal k (ends d ds) (omega (arith, length-append ds (b ∷ []))) front h))
 
 no-lead : (ds : List ℕ) → 1 ≤ length ds → length ds ≤ mostDigits → (eqb (length ds) 1 || not (eqb (getD ds 0 0) 48)) ≡ true
     → every isDigit ds ≡ true → written mostDigits (decimal 0 ds) ≡ ds
 no-lead [] p l t e = absurd (omega arith)
-no-lead (d ∷ []) p l t e = written-digit 4 d (first (isDigit d) true e)
+no-lead (d ∷ []) p l t e = written-digit 4 d (and-left (isDigit d) true e)
 no-lead (d ∷ c ∷ ds) p l t e =
     written-decimal mostDigits (ends d (c ∷ ds)) l e
     (λ q. false≢true (rw (ne-eqb (length (d ∷ c ∷ ds)) 1 (λ r. omega arith), eq-eqb d 48 q) at t))

@@ -14,7 +14,8 @@ use Rattle.term.specs.Term.{Term}
 use Rattle.term.specs.Variants.{variantCount, activities, member}
 use Rattle.schedule.specs.Schedule.{feasible}
 use Rattle.schedule.specs.Sessions.{startsOf}
-use Rattle.schedule.proofs.Below.{both, and-left, and-right, every-at, every-of}
+use Rattle.bools.proofs.Bools.{both, and-left, and-right}
+use Rattle.schedule.proofs.Below.{every-at, every-of}
 use Rattle.schedule.proofs.Load.{Has}
 use Rattle.variant.specs.Precedence.{precedes}
 use Rattle.variant.specs.Project.{activityAt, projectOf, variantAt}

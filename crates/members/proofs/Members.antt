@@ -14,7 +14,7 @@ use lib.Count.{trailingZeros, under}
 use lib.Dec.{eqb}
 use lib.Pow.{pow-pos}
 use borrow.Author.Tests.{eq-eqb, ne-eqb}
-use Rattle.schedule.proofs.Below.{by-bool, true-not-false, and-left, cond-true, cond-false}
+use Rattle.bools.proofs.Bools.{by-bool, true-not-false, and-left, cond-true, cond-false}
 use Rattle.schedule.specs.Sessions.{gather}
 use Rattle.sets.proofs.Laws.{has-first, has-later, has-none, has-without}
 use Rattle.sets.specs.Sets.{most, has}

@@ -10,7 +10,7 @@ use lib.Dec.{ltb}
 use lib.ListN.{length, getD, set, take, replicate, length-take, length-set, List·getD-eq-default}
 use lib.Seq.{getD-set-same, getD-set-other, getD-take}
 use borrow.Author.Tests.{lt-ltb, le-ltb}
-use Rattle.schedule.proofs.Below.{cond-true, cond-false}
+use Rattle.bools.proofs.Bools.{cond-true, cond-false}
 use Rattle.network.specs.Steps.{Columns}
 
 zeros : (n j : ℕ) → _≡_ {A = ℕ} (getD (replicate n 0) j 0) 0

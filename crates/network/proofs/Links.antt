@@ -13,7 +13,7 @@ use lib.ListN.{length, getD, set, length-set}
 use lib.Pow.{pow-lt}
 use lib.Seq.{getD-set-same, getD-set-other}
 use borrow.Author.Tests.{eq-eqb, ne-eqb}
-use Rattle.schedule.proofs.Below.{by-bool, true-not-false, and-left, cond-true, cond-false}
+use Rattle.bools.proofs.Bools.{by-bool, true-not-false, and-left, cond-true, cond-false}
 use Rattle.sets.proofs.Laws.{has-none, has-and, has-xor, has-with, has-without}
 use Rattle.sets.specs.Sets.{most, has}
 use Rattle.members.proofs.Members.{lowest-is, lowest-below, lowest-has, after-less, after-has}

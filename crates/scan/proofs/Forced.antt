@@ -12,7 +12,8 @@ use lib.Dec.{eqb, ltb}
 use lib.ListN.{length, getD, set}
 use lib.Seq.{getD-set-same, getD-set-other, set-out, set-comm}
 use borrow.Author.Tests.{eq-eqb, ne-eqb, eqb-true, lt-ltb, not-true}
-use Rattle.schedule.proofs.Below.{by-bool, true-not-false, both, and-left, and-right, cond-true, cond-false, cond-le, max-least, max-eq}
+use Rattle.bools.proofs.Bools.{by-bool, true-not-false, both, and-left, and-right, cond-true, cond-false}
+use Rattle.schedule.proofs.Below.{cond-le, max-least, max-eq}
 use Rattle.schedule.specs.Sessions.{gather}
 use Rattle.sets.proofs.Laws.{has-none, has-without, meet-not, meet-none, meet-of, size-without}
 use Rattle.sets.specs.Sets.{most, has, meet, size}

@@ -9,32 +9,10 @@ use mathlib.Core.Path.{_≡_, refl, sym, _∙_, ap, ap₂}
 use mathlib.Core.Logic.{_≢_, by-cases}
 use lib.Dec.{eqb}
 use borrow.Author.Tests.{eq-eqb, ne-eqb}
+use Rattle.bools.proofs.Bools.{by-bool, true-not-false, same-bool, both, and-left, and-right, not-both, cond-true, cond-false}
 use Rattle.schedule.specs.Below.{everyBelow, sumBelow, maxBelow, _implies_}
 
--- Bool
-
-pub by-bool {ℓ} : {C : Type ℓ} (b : Bool) → (b ≡ true → C) → (b ≡ false → C) → C
-by-bool true y n = y refl
-by-bool false y n = n refl
-
-pub true-not-false {ℓ} : {C : Type ℓ} {b : Bool} → b ≡ true → b ≡ false → C
-true-not-false {b} y n = let z : _≡_ {A = ℕ} 0 1 = cc in absurd (omega arith)
-
-pub same-bool : (a b : Bool) → (a ≡ true → b ≡ true) → (b ≡ true → a ≡ true) → a ≡ b
-same-bool true b f g = sym (f refl)
-same-bool false true f g = g refl
-same-bool false false f g = refl
-
-pub both : {a b : Bool} → a ≡ true → b ≡ true → (a && b) ≡ true
-both {a} {b} p q = ap₂ _&&_ p q
-
-pub and-left : (a b : Bool) → (a && b) ≡ true → a ≡ true
-and-left true b e = refl
-and-left false b e = e
-
-pub and-right : (a b : Bool) → (a && b) ≡ true → b ≡ true
-and-right true b e = e
-and-right false b e = true-not-false e refl
+-- implications and choices
 
 pub implies-elim : (a b : Bool) → (a implies b) ≡ true → a ≡ true → b ≡ true
 implies-elim true b e h = e
@@ -47,16 +25,6 @@ implies-intro false b f = refl
 pub implies-fails : (a b : Bool) → (a implies b) ≡ false → (a ≡ true) × (b ≡ false)
 implies-fails true b e = (refl, e)
 implies-fails false b e = true-not-false refl e
-
-pub not-both : (a b : Bool) → (a && b) ≡ false → a ≡ true → b ≡ false
-not-both true b e h = e
-not-both false b e h = true-not-false h refl
-
-pub cond-true {ℓ} : {A : Type ℓ} {b : Bool} (x y : A) → b ≡ true → cond b x y ≡ x
-cond-true x y e = rw e
-
-pub cond-false {ℓ} : {A : Type ℓ} {b : Bool} (x y : A) → b ≡ false → cond b x y ≡ y
-cond-false x y e = rw e
 
 pub cond-le : (b : Bool) (x : ℕ) → cond b x 0 ≤ x
 cond-le true x = omega arith

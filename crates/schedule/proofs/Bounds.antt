@@ -14,7 +14,8 @@ use Rattle.schedule.specs.Project.{Project}
 pub use Rattle.schedule.specs.Bounds.{work}
 use Rattle.schedule.specs.Schedule.{Starts, endOf, load, latestEnd}
 use Rattle.schedule.specs.Sessions.{wait, horizon}
-use Rattle.schedule.proofs.Below.{by-bool, both, and-left, and-right, implies-elim, implies-fails, cond-true, cond-false, cond-mono, every-at, every-fails, sum-le, sum-le-but, max-term, max-least, sum-eq}
+use Rattle.bools.proofs.Bools.{by-bool, both, and-left, and-right, cond-true, cond-false}
+use Rattle.schedule.proofs.Below.{implies-elim, implies-fails, cond-mono, every-at, every-fails, sum-le, sum-le-but, max-term, max-least, sum-eq}
 use Rattle.schedule.proofs.Load.{Has, Sound, Unfixed, load-some, ends-least}
 use Rattle.schedule.proofs.Reflect.{Active}
 use Rattle.schedule.proofs.Moves.{Earlier, move-earlier, own-fits}

@@ -12,7 +12,7 @@ use lib.Seq.{ext-getD}
 use Rattle.schedule.specs.Project.{Project}
 use Rattle.schedule.specs.Schedule.{Starts, active}
 use Rattle.schedule.specs.Sessions.{rows, horizon, startsOf, sessions}
-use Rattle.schedule.proofs.Below.{by-bool, true-not-false, cond-true, cond-false}
+use Rattle.bools.proofs.Bools.{by-bool, true-not-false, cond-true, cond-false}
 use Rattle.schedule.proofs.Load.{Has, Sound}
 use Rattle.schedule.proofs.Reflect.{Active, active-is, active-of}
 use Rattle.schedule.proofs.Agree.{Agree, Active-agree}

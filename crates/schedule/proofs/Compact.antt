@@ -9,7 +9,8 @@ use mathlib.Core.Logic.{by-cases}
 use Rattle.schedule.specs.Below.{sumBelow}
 use Rattle.schedule.specs.Project.{Project}
 use Rattle.schedule.specs.Schedule.{Starts, load, latestEnd, moved, active, makespan}
-use Rattle.schedule.proofs.Below.{by-bool, true-not-false, sum-le-but}
+use Rattle.bools.proofs.Bools.{by-bool, true-not-false}
+use Rattle.schedule.proofs.Below.{sum-le-but}
 use Rattle.schedule.proofs.Load.{Has, Sound, Unfixed, load-mono, load-some, end-le, ends-least, latest-mono, moved-same}
 use Rattle.schedule.proofs.Reflect.{Feasible, Active, Sooner, active-is, not-active}
 use Rattle.schedule.proofs.Moves.{moved-le, Earlier, move-earlier, own-fits}

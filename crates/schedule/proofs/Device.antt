@@ -10,7 +10,8 @@ use lib.Dec.{eqb}
 use borrow.Author.Tests.{eqb-true, eq-eqb}
 use Rattle.schedule.specs.Project.{Project}
 use Rattle.schedule.specs.Schedule.{Starts, endOf, runs, load}
-use Rattle.schedule.proofs.Below.{by-bool, true-not-false, cond-true, cond-false, cond-le, sum-two, sum-one}
+use Rattle.bools.proofs.Bools.{by-bool, true-not-false, cond-true, cond-false}
+use Rattle.schedule.proofs.Below.{cond-le, sum-two, sum-one}
 use Rattle.schedule.proofs.Load.{Has, Sound, Unfixed, Runs, runs-is, runs-there, holds, holds-all, holds-some, holds-le}
 use Rattle.schedule.proofs.Reflect.{Feasible}
 use Rattle.schedule.proofs.Bounds.{NoGaps}

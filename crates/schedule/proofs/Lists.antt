@@ -9,7 +9,7 @@ use mathlib.Core.HLevel.{⊥-prop}
 use mathlib.Core.Logic.{⊎-elim, ∥∥₁-elim, by-cases}
 use mathlib.Core.List.{List, [], _∷_, List·Memᴰ, List·Memᴰ·head, List·Memᴰ·tail, List·Mem, List·Memᴰ·not-nil, List·Memᴰ·cases-cons, Memᴰ·append-left, Memᴰ·append-right, List·Memᴰ·append-cases, List·Memᴰ·eq-of-singleton, List·Nodup, nodup-nil, nodup-cons, nodup-append}
 use Rattle.schedule.specs.Sessions.{keep, gather}
-use Rattle.schedule.proofs.Below.{by-bool, true-not-false}
+use Rattle.bools.proofs.Bools.{by-bool, true-not-false}
 
 module _ {ℓ} {A : Type ℓ} where
   -- A membership of which only the fact is known, where elements can be told apart.

@@ -12,7 +12,8 @@ use Rattle.schedule.specs.Below.{sumBelow}
 use Rattle.schedule.specs.Project.{Project}
 pub use Rattle.schedule.specs.Bounds.{Has}
 use Rattle.schedule.specs.Schedule.{Starts, endOf, runs, load, latestEnd, moved}
-use Rattle.schedule.proofs.Below.{by-bool, both, and-left, and-right, cond-true, cond-false, cond-le, sum-le, sum-le-but, sum-zero, sum-term, sum-some, max-term, max-least}
+use Rattle.bools.proofs.Bools.{by-bool, both, and-left, and-right, cond-true, cond-false}
+use Rattle.schedule.proofs.Below.{cond-le, sum-le, sum-le-but, sum-zero, sum-term, sum-some, max-term, max-least}
 
 -- Every activity lasts a tick or more.
 pub record Sound (p : Project) : Type 0 where

@@ -11,7 +11,8 @@ use Rattle.schedule.specs.Below.{sumBelow}
 use Rattle.schedule.specs.Project.{Project}
 pub use Rattle.schedule.specs.Bounds.{Chain, chainLength, demand}
 use Rattle.schedule.specs.Schedule.{Starts, load, latestEnd, makespan}
-use Rattle.schedule.proofs.Below.{by-bool, and-left, and-right, cond-true, cond-false, sum-le, sum-const, sum-window, sum-swap}
+use Rattle.bools.proofs.Bools.{by-bool, and-left, and-right, cond-true, cond-false}
+use Rattle.schedule.proofs.Below.{sum-le, sum-const, sum-window, sum-swap}
 use Rattle.schedule.proofs.Load.{Has, Sound, Unfixed, holds, holds-all, end-le}
 use Rattle.schedule.proofs.Reflect.{Feasible, Active}
 use Rattle.schedule.proofs.Makespan.{earliest, earliest-le, makespan-is}

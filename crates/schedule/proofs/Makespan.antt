@@ -8,7 +8,7 @@ use mathlib.Core.Path.{_≡_, refl, _∙_}
 use mathlib.Core.Logic.{by-cases}
 use Rattle.schedule.specs.Project.{Project}
 use Rattle.schedule.specs.Schedule.{Starts, latestEnd, earliestStart, makespan}
-use Rattle.schedule.proofs.Below.{by-bool, true-not-false, cond-true, cond-false}
+use Rattle.bools.proofs.Bools.{by-bool, true-not-false, cond-true, cond-false}
 use Rattle.schedule.proofs.Load.{Has, end-le, ends-least}
 
 earliest-le-below : (p : Project) (S : Starts) (n : ℕ) (i : ℕ) → i < n → p .present i ≡ true → earliestStart p S n ≤ S i

@@ -8,7 +8,7 @@ use mathlib.Core.Path.{_≡_, _∙_, ap}
 use mathlib.Core.Logic.{by-cases}
 use Rattle.schedule.specs.Project.{Project}
 use Rattle.schedule.specs.Schedule.{Starts, endOf, load, moved}
-use Rattle.schedule.proofs.Below.{true-not-false}
+use Rattle.bools.proofs.Bools.{true-not-false}
 use Rattle.schedule.proofs.Load.{Has, Sound, Runs, among, load-mono, load-mono-but, units-in-load, moved-same, moved-other}
 use Rattle.schedule.proofs.Reflect.{Feasible}
 

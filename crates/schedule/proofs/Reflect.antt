@@ -11,7 +11,8 @@ use borrow.Author.Tests.{leb-true, le-leb, eqb-true, eq-eqb, not-true, not-false
 use Rattle.schedule.specs.Below.{everyBelow, _implies_}
 use Rattle.schedule.specs.Project.{Project}
 use Rattle.schedule.specs.Schedule.{Starts, endOf, load, latestEnd, placed, inOrder, withinCapacity, feasible, moved, active}
-use Rattle.schedule.proofs.Below.{by-bool, true-not-false, both, and-left, and-right, implies-elim, implies-intro, implies-fails, not-both, cond-true, cond-false, every-at, every-of, every-fails}
+use Rattle.bools.proofs.Bools.{by-bool, true-not-false, both, and-left, and-right, not-both, cond-true, cond-false}
+use Rattle.schedule.proofs.Below.{implies-elim, implies-intro, implies-fails, every-at, every-of, every-fails}
 use Rattle.schedule.proofs.Load.{Has, load-after}
 
 pub record Feasible (p : Project) (S : Starts) : Type 0 where

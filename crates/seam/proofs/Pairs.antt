@@ -16,7 +16,8 @@ use Rattle.term.specs.Variants.{variantCount, activities, member}
 use Rattle.timetable.specs.Mark.{mark, places}
 use Rattle.schedule.specs.Project.{Project}
 use Rattle.schedule.specs.Sessions.{startsOf, sessions}
-use Rattle.schedule.proofs.Below.{by-bool, both, every-of}
+use Rattle.bools.proofs.Bools.{by-bool, both}
+use Rattle.schedule.proofs.Below.{every-of}
 use Rattle.schedule.proofs.Load.{Has}
 use Rattle.schedule.proofs.Reflect.{feasible-of}
 use Rattle.schedule.proofs.Agree.{Feasible-agree}

@@ -12,7 +12,8 @@ use Rattle.term.specs.Term.{Term}
 use Rattle.term.specs.Variants.{activities, member}
 use Rattle.sets.specs.Sets.{most, has}
 use Rattle.sets.proofs.Laws.{has-first, has-later, has-above}
-use Rattle.schedule.proofs.Below.{by-bool, cond-true, cond-false, cond-le}
+use Rattle.bools.proofs.Bools.{by-bool, cond-true, cond-false}
+use Rattle.schedule.proofs.Below.{cond-le}
 use Rattle.scan.proofs.Model.{Problem}
 use Rattle.variant.specs.Precedence.{precedes}
 use Rattle.variant.specs.Project.{activityAt, variantAt}

@@ -12,7 +12,8 @@ use Rattle.sets.specs.Sets.{most, has}
 use Rattle.timetable.specs.Mark.{mark}
 use Rattle.schedule.specs.Bounds.{work}
 use Rattle.schedule.specs.Sessions.{horizon}
-use Rattle.schedule.proofs.Below.{by-bool, cond-true, cond-false, sum-const}
+use Rattle.bools.proofs.Bools.{by-bool, cond-true, cond-false}
+use Rattle.schedule.proofs.Below.{sum-const}
 use Rattle.schedule.proofs.Bounds.{plain-horizon}
 use Rattle.branching.proofs.Node.{Ranked}
 use Rattle.branching.proofs.Rank.{before, before-ranks}

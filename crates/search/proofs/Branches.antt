@@ -8,7 +8,7 @@ use mathlib.Core.Logic.{_≢_, by-cases}
 use mathlib.Core.Path.{_≡_, refl, sym, ap, ap₂, _∙_, subst, subst₂}
 use lib.ListN.{length}
 use borrow.Author.Tests.{lt-leb}
-use Rattle.schedule.proofs.Below.{by-bool, cond-true, cond-false}
+use Rattle.bools.proofs.Bools.{by-bool, cond-true, cond-false}
 use Rattle.schedule.specs.Sessions.{gather}
 use Rattle.sets.proofs.Laws.{has-above, size-without}
 use Rattle.sets.specs.Sets.{most, has, size}
@@ -18,7 +18,7 @@ use Rattle.members.specs.Lowest.{lowestOf, afterLowest}
 use Rattle.members.proofs.Members.{members, fold-members, after-less, after-has, turn}
 use Rattle.search.specs.Tables.{problemOf}
 use Rattle.search.specs.Seen.{Setting, Kept, IsTally, settingIn, keptOf, counted, seen, Searched}
-use Rattle.search.specs.Work.{AtNode, Beside}
+use Rattle.search.specs.Standing.{AtNode, Beside}
 
 module _ (p : Problem) (s : Node) (k i end : ℕ) (given : end ≡ cond (isChoice p s k i) (finish p s i) never) where
   pub is-choice : end ≢ never → isChoice p s k i ≡ true

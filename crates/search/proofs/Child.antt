@@ -9,14 +9,16 @@ use mathlib.Core.Logic.{_≢_, by-cases}
 use mathlib.Core.Path.{_≡_, sym, ap, _∙_}
 use lib.ListN.{length, getD, length-set}
 use lib.Seq.{getD-set-same, getD-set-other}
-use Rattle.schedule.proofs.Below.{by-bool, true-not-false, same-bool, both, and-left, and-right, cond-true, cond-false, max-term, max-eq}
+use Rattle.bools.proofs.Bools.{by-bool, true-not-false, same-bool, both, and-left, and-right, cond-true, cond-false}
+use Rattle.schedule.proofs.Below.{max-term, max-eq}
 use Rattle.sets.proofs.Laws.{meet-at, meet-not, meet-none}
 use Rattle.sets.specs.Sets.{most, has, meet, size}
 use Rattle.scan.proofs.Model.{Node, width, devices, ready, earliest, finish, isOpen, freeze}
 use Rattle.network.specs.Network.{workAt, predsAt, nextAt, nearAt}
 use Rattle.search.specs.Tables.{problemOf, longest}
 use Rattle.search.specs.Seen.{latestEnd}
-use Rattle.search.specs.Work.{endAt, readyAt, freeAt, opens, Released, Fit, AtNode, Beside}
+use Rattle.choices.specs.Work.{endAt, readyAt, freeAt, opens, Released}
+use Rattle.search.specs.Standing.{Fit, AtNode, Beside}
 use Rattle.search.proofs.Columns.{duration-at}
 use Rattle.search.proofs.Parts.{store-either, latest-set, still, stays, other, gone-of, gone, member-below, nearest, ready-is, open-is, or-elim, or-right, not-false}
 pub use Rattle.search.proofs.Candidate.{all-ended, key-is, below, waits, soon-is, finish-is, finish-early, choice-is, no-release, no-release-of}

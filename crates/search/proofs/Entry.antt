@@ -17,7 +17,8 @@ use Rattle.network.specs.Network.{workAt, predsAt, Network, Tabled}
 use Rattle.search.specs.Tables.{tablesOf, problemOf, longest, Asked}
 use Rattle.search.specs.Seen.{Setting, settingOf, settingIn, tallyOf, kept, keptOf, latestEnd, allSeen, Searched}
 use Rattle.search.specs.declared.Tally.{Tally}
-use Rattle.search.specs.Work.{Timed, Fit, AtNode, Opened}
+use Rattle.choices.specs.Work.{Timed, Opened}
+use Rattle.search.specs.Standing.{Fit, AtNode}
 use Rattle.search.proofs.Columns.{preds-at}
 
 -- ---- lists of zeros, and what lies behind the end of a list

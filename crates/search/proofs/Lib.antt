@@ -1,9 +1,7 @@
--- What the proofs of the search share: the columns of its table, the loops over sets, a candidate and the node below it,
--- the branches of a node, what needs no branch, rows, and the root.
+-- What the proofs of the search share: the columns of its table, a candidate and the node below it, the branches of a node,
+-- what needs no branch, rows, and the root.
 pub mod Columns
 pub mod Parts
-pub mod Folds
-pub mod Turns
 pub mod Candidate
 pub mod Child
 pub mod Stored

@@ -12,7 +12,8 @@ use lib.Dec.{eqb}
 use lib.ListN.{length, getD, set}
 use lib.Seq.{getD-set-same, getD-set-other, set-out}
 use borrow.Author.Tests.{eq-eqb, ne-eqb}
-use Rattle.schedule.proofs.Below.{by-bool, true-not-false, both, and-left, and-right, cond-true, cond-false, max-term, max-least}
+use Rattle.bools.proofs.Bools.{by-bool, true-not-false, both, and-left, and-right, cond-true, cond-false}
+use Rattle.schedule.proofs.Below.{max-term, max-least}
 use Rattle.schedule.specs.Below.{maxBelow}
 use Rattle.sets.proofs.Laws.{has-above, has-without, meet-not}
 use Rattle.sets.specs.Sets.{most, has, meet}
@@ -20,7 +21,7 @@ use Rattle.scan.proofs.Model.{Node, leastBelow, ready, isOpen}
 use Rattle.network.specs.Network.{predsAt, nearAt, Linked}
 use Rattle.search.specs.Tables.{problemOf}
 use Rattle.search.specs.Seen.{latestEnd}
-use Rattle.search.specs.Work.{endAt, latestOf}
+use Rattle.choices.specs.Work.{endAt, latestOf}
 use Rattle.search.proofs.Columns.{preds-at}
 
 -- ---- the greatest and the least below n

@@ -10,7 +10,8 @@ use lib.Dec.{eqb}
 use lib.ListN.{getD, set}
 use lib.Seq.{getD-set-same, getD-set-other}
 use borrow.Author.Tests.{eq-eqb, ne-eqb}
-use Rattle.schedule.proofs.Below.{by-bool, true-not-false, and-left, and-right, max-eq}
+use Rattle.bools.proofs.Bools.{by-bool, true-not-false, and-left, and-right}
+use Rattle.schedule.proofs.Below.{max-eq}
 use Rattle.schedule.specs.Sessions.{gather}
 use Rattle.sets.proofs.Laws.{has-none, has-without}
 use Rattle.sets.specs.Sets.{most, has, size}
@@ -22,7 +23,8 @@ use Rattle.members.proofs.Members.{lowest-is, lowest-has, lowest-below}
 use Rattle.network.specs.Network.{workAt}
 use Rattle.search.specs.Tables.{problemOf}
 use Rattle.search.specs.Seen.{Setting, Kept, settingIn, keptOf, IsTally, latestEnd, better, rowOf, counted, seen, Searched}
-use Rattle.search.specs.Work.{freeAt, soonAt, Timed, opens, Released, Apart, Ended, Fit, AtNode, Beside}
+use Rattle.choices.specs.Work.{freeAt, soonAt, Timed, opens, Released, Apart}
+use Rattle.search.specs.Standing.{Ended, Fit, AtNode, Beside}
 use Rattle.search.proofs.Columns.{duration-at, resource-at}
 use Rattle.search.proofs.Parts.{member-below}
 use Rattle.search.proofs.Child.{all-ended, below, waits, finish-is, finish-early, child, no-release, no-release-of}

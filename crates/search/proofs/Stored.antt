@@ -10,13 +10,14 @@ use lib.Dec.{eqb}
 use lib.ListN.{length, getD, set, length-set}
 use lib.Seq.{getD-set-same, getD-set-other}
 use borrow.Author.Tests.{eq-eqb, ne-eqb}
-use Rattle.schedule.proofs.Below.{true-not-false, and-left}
+use Rattle.bools.proofs.Bools.{true-not-false, and-left}
 use Rattle.sets.proofs.Laws.{has-without}
 use Rattle.sets.specs.Sets.{most, has, size}
 use Rattle.scan.proofs.Model.{Problem, Node, devices, finish, freeze}
 use Rattle.network.specs.Network.{workAt}
 use Rattle.search.specs.Tables.{problemOf, longest}
-use Rattle.search.specs.Work.{endAt, readyAt, freeAt, Timed, opens, Released, Fit, AtNode, Beside}
+use Rattle.choices.specs.Work.{endAt, readyAt, freeAt, Timed, opens, Released}
+use Rattle.search.specs.Standing.{Fit, AtNode, Beside}
 use Rattle.search.proofs.Columns.{resource-at}
 use Rattle.search.proofs.Parts.{store-either}
 use Rattle.search.proofs.Child.{below, waits, finish-is, finish-early, child, no-release, no-release-of}

@@ -1,4 +1,4 @@
 -- What the search's contracts say.
 pub mod Tables
 pub mod Seen
-pub mod Work
+pub mod Standing

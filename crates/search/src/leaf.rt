@@ -13,7 +13,7 @@ ghost use Rattle.scan.proofs.Model.{startOf, starts};
 ghost use Rattle.network.specs.Network.{capOf, variantOf, actsOf};
 ghost use Rattle.search.specs.Tables.{problemOf};
 ghost use Rattle.search.specs.Seen.{latestEnd, placed, rowOf, settingIn, keptOf, IsTally, tallyOf, better, seen};
-ghost use Rattle.search.specs.Work.{Ended, Fit};
+ghost use Rattle.search.specs.Standing.{Ended, Fit};
 
 fn start_of(end: u32, work: u32) -> u16
     requires { ⌜ (end < 2 ^ 16) × ((end ≡ 0 → ⊥) → work / 16 ≤ end) ⌝ }

@@ -1,12 +1,14 @@
 // The search for the active schedules of one variant.
-mod choices;
 mod leaf;
 
+use choices::FREE;
+use choices::NEVER;
 use choices::choice_end;
 use choices::contests;
 use choices::earliest_start;
 use choices::later;
 use choices::least_key;
+use choices::opened;
 use choices::release;
 use leaf::cells_of;
 use leaf::leave;
@@ -14,7 +16,6 @@ use leaf::tally_of;
 use members::after_lowest;
 use members::lowest;
 use network::CAP;
-use network::PREDS;
 use timetable::Timetable;
 ghost use mathlib.Core.Path.{_≡_};
 ghost use Prim.Native.Nat.{_^_, _<_};
@@ -23,7 +24,8 @@ ghost use Rattle.scan.proofs.Model.{Node};
 ghost use Rattle.members.specs.Lowest.{afterLowest};
 ghost use Rattle.search.specs.Tables.{tablesOf, Asked};
 ghost use Rattle.search.specs.Seen.{settingOf, noTally, kept, IsTally, allSeen};
-ghost use Rattle.search.specs.Work.{Timed, Apart, Fit, AtNode, Explored, Opened};
+ghost use Rattle.choices.specs.Work.{Timed, Apart};
+ghost use Rattle.search.specs.Standing.{Fit, AtNode, Explored};
 
 // How many schedules were found, and the one of them that ends first: its latest end, its variant and its starts.
 pub struct Tally {
@@ -47,15 +49,6 @@ impl Tally {
         }
     }
 }
-
-// More than any end, and more than any key.
-const NEVER: u32 = 4294967295;
-
-// The working array has the end of each frozen activity, then when the predecessors of each candidate have ended, then the
-// last frozen end on each resource.
-const READY: usize = 32;
-
-const FREE: usize = 64;
 
 // The last activity left is frozen.
 fn finish(
@@ -151,23 +144,6 @@ fn descend(
             work[FREE + r] = free;
         }
     }
-}
-
-// Those of a set that have no predecessor in it.
-fn opened(table: &[u32; 131], set: u32) -> u32
-    requires { ⌜ set < 2 ^ most ⌝ }
-    ensures { λ r. ⌜ Opened (now (table .entry)) set r ⌝ }
-{
-    let mut all = 0;
-    let mut rest = set;
-    while rest != 0 {
-        let i = lowest(rest);
-        rest = after_lowest(rest);
-        if !sets::meets(table[PREDS + i], set) {
-            all = sets::union(all, sets::single(i));
-        }
-    }
-    all
 }
 
 // Every active schedule of one variant is counted, until there are more than `cap`; the one that ends first of all so

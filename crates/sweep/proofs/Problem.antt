@@ -14,7 +14,7 @@ use Rattle.sets.specs.Sets.{most, has}
 use Rattle.sets.proofs.Laws.{has-none, same}
 use Rattle.term.specs.Term.{Term}
 use Rattle.term.specs.Variants.{activities, member, variantCount}
-use Rattle.schedule.proofs.Below.{by-bool}
+use Rattle.bools.proofs.Bools.{by-bool}
 use Rattle.variant.specs.Precedence.{precedes}
 use Rattle.variant.specs.Project.{activityAt, variantAt}
 use Rattle.variant.proofs.Order.{precedes-members}

@@ -12,7 +12,7 @@ use lib.ListN.{length, take, drop, length-append, length-drop}
 use lib.Seq.{take-at, drop-append-add, drop-drop}
 use borrow.Author.Tests.{le-leb, lt-leb}
 use Rattle.schedule.specs.Sessions.{gather}
-use Rattle.schedule.proofs.Below.{cond-true, cond-false}
+use Rattle.bools.proofs.Bools.{cond-true, cond-false}
 use Rattle.scan.proofs.Model.{Problem, startOf, starts, scanned, found}
 use Rattle.search.specs.Seen.{Kept, placed, rowOf, counted}
 use Rattle.tally.proofs.Entries.{Entry, entryOf, entries, entriesBelow, step, run, step-counts, stays}

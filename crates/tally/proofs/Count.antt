@@ -8,7 +8,7 @@ use mathlib.Core.List.{List, [], _∷_}
 use lib.Dec.{leb, ltb}
 use lib.ListN.{length}
 use borrow.Author.Tests.{lt-leb}
-use Rattle.schedule.proofs.Below.{by-bool}
+use Rattle.bools.proofs.Bools.{by-bool}
 use Rattle.scan.proofs.Model.{Problem}
 use Rattle.search.specs.declared.Tally.{Tally}
 use Rattle.search.specs.Seen.{Kept, Setting, latestEnd, better, counted}

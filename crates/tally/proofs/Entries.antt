@@ -8,7 +8,7 @@ use mathlib.Core.Path.{_≡_, refl, ap, _∙_}
 use mathlib.Core.List.{List, [], _∷_, _++_, map, foldl, foldl-append, foldl-map, List·Memᴰ, Memᴰ·map, Memᴰ·of-map}
 use borrow.Author.Tests.{le-leb, lt-leb}
 use Rattle.schedule.specs.Sessions.{gather}
-use Rattle.schedule.proofs.Below.{cond-true, cond-false}
+use Rattle.bools.proofs.Bools.{cond-true, cond-false}
 use Rattle.schedule.proofs.Lists.{gather-is, gather-mem}
 use Rattle.scan.proofs.Model.{Problem, scanned}
 use Rattle.search.specs.Seen.{Kept, settingOf, counted, seen}

@@ -9,7 +9,7 @@ use borrow.Author.Tests.{ltb-true, lt-ltb}
 use lib.Dec.{ltb}
 use lib.ListN.{length, getD, length-append}
 use Rattle.plan.specs.Plan.{Node}
-use Rattle.format.proofs.Tests.{both}
+use Rattle.bools.proofs.Bools.{both}
 use Rattle.term.specs.Term.{Term, Forest, act, seq, pll, xor, nil, cons, size, nodes, nodesOfAll}
 use Rattle.term.specs.Variants.{activities, activitiesOfAll, member, variants, combinations, paired, variantCount}
 use Rattle.term.specs.Reduced.{xorFree, xorFreeAll}

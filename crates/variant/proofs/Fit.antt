@@ -9,7 +9,8 @@ use lib.Dec.{ltb, eqb}
 use lib.ListN.{length, length-append}
 use Rattle.plan.specs.Limits.{isChildCount}
 use Rattle.plan.specs.Plan.{isNode, every}
-use Rattle.format.proofs.Tests.{both, every-append, facts-between, first, second}
+use Rattle.bools.proofs.Bools.{both, and-left, and-right}
+use Rattle.format.proofs.Tests.{every-append, facts-between}
 use Rattle.term.specs.Term.{Term, Forest, act, seq, pll, xor, nil, cons, size, nodes, nodesOfAll}
 use Rattle.term.specs.Variants.{activities, activitiesOfAll, member}
 use Rattle.term.proofs.Model.{full, fullAll}
@@ -24,11 +25,11 @@ mutual
 
   pub nodes-below : (t : Term) (n : ℕ) → every (isNode n) (nodes t) ≡ true → Below n (activities t)
   nodes-below (act k) n e i m =
-      let l : k < n = ltb-true k n (first (ltb k n) true e) in
+      let l : k < n = ltb-true k n (and-left (ltb k n) true e) in
       or-elim (eqb i k) false (λ q. let s : i ≡ k = eqb-true i k q in omega arith) (λ q. absurd (false≢true q)) m
-  nodes-below (seq f) n e i m = nodesOfAll-below f n (second (isChildCount (size f)) (every (isNode n) (nodesOfAll f)) e) i m
-  nodes-below (pll f) n e i m = nodesOfAll-below f n (second (isChildCount (size f)) (every (isNode n) (nodesOfAll f)) e) i m
-  nodes-below (xor f) n e i m = nodesOfAll-below f n (second (isChildCount (size f)) (every (isNode n) (nodesOfAll f)) e) i m
+  nodes-below (seq f) n e i m = nodesOfAll-below f n (and-right (isChildCount (size f)) (every (isNode n) (nodesOfAll f)) e) i m
+  nodes-below (pll f) n e i m = nodesOfAll-below f n (and-right (isChildCount (size f)) (every (isNode n) (nodesOfAll f)) e) i m
+  nodes-below (xor f) n e i m = nodesOfAll-below f n (and-right (isChildCount (size f)) (every (isNode n) (nodesOfAll f)) e) i m
 
   nodesOfAll-below : (f : Forest) (n : ℕ) → every (isNode n) (nodesOfAll f) ≡ true → Below n (activitiesOfAll f)
   nodesOfAll-below nil n e i m = absurd (false≢true m)

@@ -9,7 +9,7 @@ use native.Mathlib.Omega.{arith}
 use borrow.Author.Tests.{ltb-true, ltb-false}
 use lib.Dec.{ltb}
 use lib.ListN.{length, length-append}
-use Rattle.format.proofs.Tests.{both, first, second}
+use Rattle.bools.proofs.Bools.{both, and-left, and-right}
 use Rattle.term.specs.Term.{Term, Forest, act, seq, pll, xor, nil, cons, size, nodes, nodesOfAll}
 use Rattle.term.specs.Variants.{activities, activitiesOfAll, member}
 use Rattle.term.specs.Reduced.{xorFree, xorFreeAll}
@@ -32,8 +32,8 @@ module _ {P : Term → Term → Type 0} {Each : Forest → Forest → Type 0} {O
   either : (t : Term) (f : Forest) (v : ℕ) → v < count t + total f → (v < count t → P t (pick t v))
       → (v - count t < total f → One f (pickOne f (v - count t)))
       → (b : Bool) → ltb v (count t) ≡ b → One (cons t f) (choice b (pick t v) (pickOne f (v - count t)))
-  either t f v h first rest true e = k .here t (pick t v) f (first (ltb-true v (count t) e))
-  either t f v h first rest false e = let l : count t ≤ v = ltb-false v (count t) e in k .there t (pickOne f (v - count t)) f (rest (omega arith))
+  either t f v h and-left rest true e = k .here t (pick t v) f (and-left (ltb-true v (count t) e))
+  either t f v h and-left rest false e = let l : count t ≤ v = ltb-false v (count t) e in k .there t (pickOne f (v - count t)) f (rest (omega arith))
 
   mutual
     unfolding count pick
@@ -148,7 +148,7 @@ full-kept =
       of-act = λ i e. e;
       of-seq = group-full;
       of-pll = group-full;
-      of-xor = λ f u below e. below (second (ltb 0 (size f)) (fullAll f) e);
+      of-xor = λ f u below e. below (and-right (ltb 0 (size f)) (fullAll f) e);
       of-nil = (refl, λ e. e);
       of-cons = λ t u f g p q. (
         ap suc (q .0),
@@ -156,8 +156,8 @@ full-kept =
             let (a, b) = and-eq-true-iff (full t) (fullAll f) .0 e in
             both (p a) (q .1 b),
       );
-      here = λ t u f below e. below (first (full t) (fullAll f) e);
-      there = λ t u f below e. below (second (full t) (fullAll f) e);
+      here = λ t u f below e. below (and-left (full t) (fullAll f) e);
+      there = λ t u f below e. below (and-right (full t) (fullAll f) e);
     }
 
 pub pick-full : (t : Term) (v : ℕ) → v < count t → full t ≡ true → full (pick t v) ≡ true

@@ -13,7 +13,7 @@ use lib.Seq.{sets, sets-eq, drop-cons}
 use Rattle.plan.specs.Limits.{mostDigits}
 use Rattle.plan.specs.Plan.{every}
 use Rattle.format.specs.Lines.{written, filled}
-use Rattle.format.proofs.Tests.{first, second}
+use Rattle.bools.proofs.Bools.{and-left, and-right}
 use Rattle.format.proofs.Laws.{Kind, value, letter, literal, kind, filled-value, filled-letter, filled-literal}
 use Rattle.format.proofs.Values.{by-size, written-one, written-more, written-most}
 use Rattle.writer.specs.Wrote.{Wrote, WroteLine, WrotePiece, LettersFit, Holds}
@@ -156,8 +156,8 @@ line-end form i h line area = rw (drop-of-length-le form h) (wrote-none area (li
 -- A form with no letter.
 letterless : (form : List ℕ) → every (λ b. not (eqb b 64)) form ≡ true → (i : ℕ) → getD form i 0 ≡ 64 → ⊥
 letterless [] t i e = omega arith
-letterless (b ∷ form) t zero e = eqb-false b 64 (not-true _ (first (not (eqb b 64)) (every (λ b. not (eqb b 64)) form) t)) e
-letterless (b ∷ form) t (suc i) e = letterless form (second (not (eqb b 64)) (every (λ b. not (eqb b 64)) form) t) i e
+letterless (b ∷ form) t zero e = eqb-false b 64 (not-true _ (and-left (not (eqb b 64)) (every (λ b. not (eqb b 64)) form) t)) e
+letterless (b ∷ form) t (suc i) e = letterless form (and-right (not (eqb b 64)) (every (λ b. not (eqb b 64)) form) t) i e
 
 pub no-letter : (form : List ℕ) → every (λ b. not (eqb b 64)) form ≡ true → (v w : ℕ) → LettersFit form v w
 no-letter form t v w i e = absurd (letterless form t i e)

@@ -8,7 +8,8 @@ use lib.Dec.{eqb}
 use Rattle.plan.specs.Limits.{nodeForm}
 use Rattle.plan.specs.Plan.{xor, letterOf, valueOf, nodeOf}
 use Rattle.format.specs.Lines.{filled}
-use Rattle.format.proofs.Tests.{by-test, chosen-second}
+use Rattle.bools.proofs.Bools.{by-bool}
+use Rattle.format.proofs.Tests.{chosen-second}
 use Rattle.writer.specs.Wrote.{Wrote}
 
 -- A byte that is none of the first three letters counts as the fourth.
@@ -17,9 +18,9 @@ other-node b n a s p = chosen-second _ _ a ∙ chosen-second _ _ s ∙ chosen-se
 
 number-is : (b n : ℕ) → valueOf (nodeOf b n) ≡ n
 number-is b n =
-    by-test (eqb b 97) (λ e. rw (eqb-true b 97 e)) λ a.
-    by-test (eqb b 115) (λ e. rw (eqb-true b 115 e)) λ s.
-    by-test (eqb b 112) (λ e. rw (eqb-true b 112 e)) λ p.
+    by-bool (eqb b 97) (λ e. rw (eqb-true b 97 e)) λ a.
+    by-bool (eqb b 115) (λ e. rw (eqb-true b 115 e)) λ s.
+    by-bool (eqb b 112) (λ e. rw (eqb-true b 112 e)) λ p.
     ap valueOf (other-node b n a s p)
 
 -- The line of a node.

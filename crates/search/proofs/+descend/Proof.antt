@@ -16,7 +16,7 @@ use Rattle.search.specs.Tables.{problemOf}
 use Rattle.scan.proofs.Model.{Node, devices, never, finish, key, isChoice, freeze, leaves}
 use Rattle.members.proofs.Members.{lowest-below, lowest-has, after-less, after-none, two-left, ended}
 use Rattle.network.specs.Network.{workAt}
-use Rattle.search.specs.Work.{AtNode, Beside}
+use Rattle.search.specs.Standing.{AtNode, Beside}
 use Rattle.search.proofs.Child.{waits, key-is, choice-is, finish-early, beside-node}
 use Rattle.search.proofs.Stored.{beside-refl, beside-trans, end-small, stored-timed, node-below, undone}
 use Rattle.search.proofs.Branches.{Going, is-choice, choice-ends, no-choice, stopped, seenBelow, seen-all, open-none, Found, found-at, one-fewer, going-on, going-back}
@@ -27,11 +27,11 @@ use Rattle.members.proofs.after_lowest.Reads as after-lowest-reads
 use Rattle.members.proofs.lowest.Reads as lowest-reads
 use Rattle.search.proofs.finish.Reads as finish-reads
 use Rattle.search.proofs.settle.Reads as settle-reads
-use Rattle.search.proofs.choices.choice_end.Reads as choice-end-reads
-use Rattle.search.proofs.choices.contests.Reads as contests-reads
-use Rattle.search.proofs.choices.later.Reads as later-reads
-use Rattle.search.proofs.choices.least_key.Reads as least-key-reads
-use Rattle.search.proofs.choices.release.Reads as release-reads
+use Rattle.choices.proofs.choice_end.Reads as choice-end-reads
+use Rattle.choices.proofs.contests.Reads as contests-reads
+use Rattle.choices.proofs.later.Reads as later-reads
+use Rattle.choices.proofs.least_key.Reads as least-key-reads
+use Rattle.choices.proofs.release.Reads as release-reads
 use Rattle.sets.proofs.without.Reads as without-reads
 use Rattle.search.proofs.+descend.{statement}
 use Rattle.search.proofs.+descend.Tie.{close}

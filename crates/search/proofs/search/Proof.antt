@@ -6,7 +6,8 @@ use native.Mathlib.Omega.{arith}
 use lib.ListN.{replicate}
 use Rattle.scan.proofs.Model.{root}
 use Rattle.search.specs.Seen.{kept}
-use Rattle.search.specs.Work.{Fit, Timed, AtNode}
+use Rattle.choices.specs.Work.{Timed}
+use Rattle.search.specs.Standing.{Fit, AtNode}
 use Rattle.search.proofs.Entry.{tabled, fit, root-timed, root-at, all-found}
 use Rattle.search.specs.declared.Tally.{Tally}
 use borrow.Author.Needs.{needs}

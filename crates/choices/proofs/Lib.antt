@@ -1,0 +1,3 @@
+-- Loops over candidates, predecessors and resources.
+pub mod Folds
+pub mod Turns

@@ -1,0 +1,2 @@
+-- What the contracts on candidates and choices say.
+pub mod Work
