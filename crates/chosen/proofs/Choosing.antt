@@ -10,7 +10,7 @@ use native.Mathlib.Numerals.{add-one}
 use native.Mathlib.Omega.{arith}
 use lib.Dec.{ltb}
 use borrow.Author.Tests.{ltb-false}
-use lib.ListN.{length, getD, take, length-append}
+use lib.ListN.{length, getD, take, set, length-append}
 use lib.Seq.{length-take-le}
 use Rattle.plan.specs.Plan.{Node, nodeOf, nodesOf}
 use Rattle.plan.specs.Plan
@@ -23,7 +23,7 @@ use Rattle.variant.proofs.Dissolve.{dissolved-nodes}
 use Rattle.variant.proofs.Pick.{pick, pickEach, pickOne, choice, pos-right, pick-is}
 use Rattle.variant.proofs.Picked.{pick-nodes}
 use Rattle.chosen.specs.Chosen.{nodesIn, Choosable, Chose}
-use Rattle.chosen.specs.Model.{onto, terms, Enough, first, rest, termsAt, termAt, Spanned, Apart, Found, putIn, partsOf, partsOfEach, Held, Grown, Going, OfTerm, OfEach}
+use Rattle.chosen.specs.Model.{onto, terms, Enough, first, rest, termsAt, termAt, Spanned, Apart, Found, putIn, partsOf, partsOfEach, Written, written, Held, Grown, Going, OfTerm, OfEach}
 use Rattle.chosen.specs.declared.Digits.{Digits}
 use Rattle.chosen.specs.declared.Draft.{Draft}
 use Rattle.chosen.specs.declared.Place.{Place}
@@ -90,7 +90,10 @@ pickOne-firsts (suc k) (cons t f) v h = go (ltb v (count t)) refl (λ l. pickOne
     go false e below = let l : count t ≤ v = ltb-false v (count t) e in below (omega arith)
 
 -- A term.
-module _ {letter number next many : List ℕ} {at v : ℕ} {d : Draft} (now : OfTerm letter number next many at v d) where
+module _ {letter number next many : List ℕ} {at v : ℕ} {d : Draft} {ls ks : List ℕ} (now : OfTerm letter number next many at v (written d ls ks)) where
+  abbrev before : Written
+  before = written d ls ks
+
   abbrev ns : List Node
   ns = nodesOf letter number
 
@@ -119,7 +122,7 @@ module _ {letter number next many : List ℕ} {at v : ℕ} {d : Draft} (now : Of
   draft-room = (omega (arith, more), omega (arith, more, now .going .held .children))
 
   -- The same tables, further on, with a draft that has room there.
-  going-on : (e : Draft) → Held e → e .at + length (nodesOfAll (termsAt ns (at + 1))) ≤ 64 → Going letter number next many (at + 1) e
+  going-on : (e : Written) → Held e → e .at + length (nodesOfAll (termsAt ns (at + 1))) ≤ 64 → Going letter number next many (at + 1) e
   going-on e h r =
       record {
         even = now .going .even;
@@ -130,22 +133,33 @@ module _ {letter number next many : List ℕ} {at v : ℕ} {d : Draft} (now : Of
         room = r;
       }
 
-  -- A node with its children, for which room was left in e.
-  module _ {e : Draft} (is : e ≡ opening d) where
-    held-open : Held e
-    held-open = subst Held (sym is) (held-opening (now .going .held))
+  -- A node with its children, for which room was left in e; what was written then is i, and the node is put before it.
+  module _ {e : Draft} (left : e ≡ record { at = d .at + 1; children = 0 }) where
+    left-is : written e ls ks ≡ opening before
+    left-is = ap (λ (x : Draft). written x ls ks) left
 
-    closed-grown : {i r : Draft} (b : ℕ) (t : Term) (f : Forest) → Grown e i f → r ≡ closing i d l b → nodes t ≡ nodeOf l b ∷ nodesOfAll f → Grown d r (cons t nil)
-    closed-grown {i} b t f h close n =
-        subst (λ (x : Draft). Grown d x (cons t nil)) (sym close)
-        (grown-group l b t (now .going .held) (draft-room .0) (subst (λ (x : Draft). Grown x i f) is h) n)
+    held-open : Held (written e ls ks)
+    held-open = subst Held (sym left-is) (held-opening (now .going .held))
+
+    closed-grown : {i r : Draft} {ls₁ ks₁ ls₂ ks₂ : List ℕ} (b : ℕ) (t : Term) (f : Forest) → Grown (written e ls ks) (written i ls₁ ks₁) f
+        → (r ≡ record { at = i .at; children = d .children + 1 }) × ((ls₂ ≡ set ls₁ (d .at) l) × (ks₂ ≡ set ks₁ (d .at) b))
+        → nodes t ≡ nodeOf l b ∷ nodesOfAll f
+        → Grown before (written r ls₂ ks₂) (cons t nil)
+    closed-grown {i} {r} {ls₁} {ks₁} {ls₂} {ks₂} b t f h close n =
+        let is : written r ls₂ ks₂ ≡ closing (written i ls₁ ks₁) before l b =
+        ap (λ (x : Draft). written x ls₂ ks₂) (close .0)
+        ∙ ap₂ (λ (xs ys : List ℕ). record { at = i .at; children = d .children + 1; letter = xs; number = ys }) (close .1 .0) (close .1 .1) in
+        subst (λ (x : Written). Grown before x (cons t nil)) (sym is)
+        (grown-group l b t (now .going .held) (draft-room .0) (subst (λ (x : Written). Grown x (written i ls₁ ks₁) f) left-is h) n)
 
     -- An activity.
-    pub act-grown : (kind : ℕ) (r : Draft) → l ≡ 97 → r ≡ closing e d l k → Grown d r (partsOf kind (termAt ns at) v)
+    pub act-grown : (kind : ℕ) {r : Draft} {ls₁ ks₁ : List ℕ} → l ≡ 97
+        → (r ≡ record { at = e .at; children = d .children + 1 }) × ((ls₁ ≡ set ls (d .at) l) × (ks₁ ≡ set ks (d .at) k))
+        → Grown before (written r ls₁ ks₁) (partsOf kind (termAt ns at) v)
     unfolding onto nodes
-    act-grown kind r a close =
+    act-grown kind {r} {ls₁} {ks₁} a close =
         let n : nodeOf l k ≡ Plan.activity k = node-act l k a in
-        subst (Grown d r)
+        subst (Grown before (written r ls₁ ks₁))
         (sym (parts-act kind k v) ∙ ap (λ (f : Forest). partsOf kind (first f) v) (sym (node-at ∙ ap (λ (m : Node). onto m (termsAt ns (at + 1))) n)))
         (closed-grown k (act k) nil (grown-none held-open) close (ap (λ (m : Node). m ∷ []) (sym n)))
 
@@ -154,7 +168,7 @@ module _ {letter number next many : List ℕ} {at v : ℕ} {d : Draft} (now : Of
     node-is : termsAt ns at ≡ cons (g .make (firsts k (termsAt ns (at + 1)))) (others k (termsAt ns (at + 1)))
     node-is = node-at ∙ g .onto-is k (termsAt ns (at + 1))
 
-    children-ready : (e : Draft) → Held e → e .at ≤ d .at + 1 → OfEach letter number next many k (at + 1) v (getD many at 0) e
+    children-ready : (e : Written) → Held e → e .at ≤ d .at + 1 → OfEach letter number next many k (at + 1) v (getD many at 0) e
     children-ready e h r =
         let all : getD many at 0 ≡ product (firsts k (termsAt ns (at + 1))) =
         now .going .spanned .counts at (omega arith) (now .inside)
@@ -167,26 +181,29 @@ module _ {letter number next many : List ℕ} {at v : ℕ} {d : Draft} (now : Of
           below = omega (arith, now .below, now .going .spanned .counts at (omega arith) (now .inside));
         }
 
-    pub opened-ready : OfEach letter number next many k (at + 1) v (getD many at 0) d
-    opened-ready = children-ready d (now .going .held) (omega arith)
+    pub opened-ready : OfEach letter number next many k (at + 1) v (getD many at 0) before
+    opened-ready = children-ready before (now .going .held) (omega arith)
 
-    pub kept-ready : {e : Draft} → e ≡ opening d → OfEach letter number next many k (at + 1) v (getD many at 0) e
-    kept-ready {e} is = children-ready e (held-open is) (omega (arith, ap (λ (x : Draft). x .at) is))
+    pub kept-ready : {e : Draft} → e ≡ record { at = d .at + 1; children = 0 } → OfEach letter number next many k (at + 1) v (getD many at 0) (written e ls ks)
+    kept-ready {e} left = children-ready (written e ls ks) (held-open left) (omega (arith, ap (λ (x : Draft). x .at) left))
 
-    pub opened-grown : (kind : ℕ) (r : Draft) → l ≡ kind → Grown d r (partsOfEach l (firsts k (termsAt ns (at + 1))) v) → Grown d r (partsOf kind (termAt ns at) v)
-    opened-grown kind r e h =
-        subst (Grown d r)
+    pub opened-grown : (kind : ℕ) {r : Written} → l ≡ kind → Grown before r (partsOfEach l (firsts k (termsAt ns (at + 1))) v)
+        → Grown before r (partsOf kind (termAt ns at) v)
+    opened-grown kind {r} e h =
+        subst (Grown before r)
         (parts-opened g (firsts k (termsAt ns (at + 1))) v ∙ ap₂ (λ (b : ℕ) (f : Forest). partsOf b (first f) v) e (sym node-is))
         h
 
-    pub kept-grown : (kind : ℕ) (e i r : Draft) → (l ≡ kind → ⊥) → e ≡ opening d → Grown e i (partsOfEach l (firsts k (termsAt ns (at + 1))) v)
-        → r ≡ closing i d l (i .children) → Grown d r (partsOf kind (termAt ns at) v)
-    kept-grown kind e i r ne is h close =
+    pub kept-grown : (kind : ℕ) {e i r : Draft} {ls₁ ks₁ ls₂ ks₂ : List ℕ} → (l ≡ kind → ⊥) → e ≡ record { at = d .at + 1; children = 0 }
+        → Grown (written e ls ks) (written i ls₁ ks₁) (partsOfEach l (firsts k (termsAt ns (at + 1))) v)
+        → (r ≡ record { at = i .at; children = d .children + 1 }) × ((ls₂ ≡ set ls₁ (d .at) l) × (ks₂ ≡ set ks₁ (d .at) (i .children)))
+        → Grown before (written r ls₂ ks₂) (partsOf kind (termAt ns at) v)
+    kept-grown kind {e} {i} {r} {ls₁} {ks₁} {ls₂} {ks₂} ne left h close =
         let f : Forest = firsts k (termsAt ns (at + 1)) in
-        let many : i .children ≡ size (partsOfEach l f v) = omega (arith, h .children, ap (λ (x : Draft). x .children) is) in
-        subst (Grown d r)
+        let many : i .children ≡ size (partsOfEach l f v) = omega (arith, h .children, ap (λ (x : Draft). x .children) left) in
+        subst (Grown before (written r ls₂ ks₂))
         (parts-kept g kind ne f v ∙ ap (λ (x : Forest). partsOf kind (first x) v) (sym node-is))
-        (closed-grown is (i .children) (g .make (partsOfEach l f v)) (partsOfEach l f v) h close
+        (closed-grown left (i .children) (g .make (partsOfEach l f v)) (partsOfEach l f v) h close
         (g .nodes-is (partsOfEach l f v) ∙ ap (λ (n : ℕ). nodeOf l n ∷ nodesOfAll (partsOfEach l f v)) (sym many)))
 
   -- A group of which one is done.
@@ -207,7 +224,7 @@ module _ {letter number next many : List ℕ} {at v : ℕ} {d : Draft} (now : Of
           below = omega (arith, below-total, total-firsts k (termsAt ns (at + 1)));
         }
 
-    pub one-ready : {r : Place} → Found ns (at + 1) v r → OfTerm letter number next many (r .at) (r .v) d
+    pub one-ready : {r : Place} → Found ns (at + 1) v r → OfTerm letter number next many (r .at) (r .v) before
     one-ready f =
         record {
           going =
@@ -223,15 +240,16 @@ module _ {letter number next many : List ℕ} {at v : ℕ} {d : Draft} (now : Of
           below = f .below;
         }
 
-    pub one-grown : (kind : ℕ) {e : Draft} {r : Place} → Found ns (at + 1) v r → Grown d e (partsOf kind (termAt ns (r .at)) (r .v)) → Grown d e (partsOf kind (termAt ns at) v)
+    pub one-grown : (kind : ℕ) {e : Written} {r : Place} → Found ns (at + 1) v r → Grown before e (partsOf kind (termAt ns (r .at)) (r .v))
+        → Grown before e (partsOf kind (termAt ns at) v)
     unfolding partsOf pick
     one-grown kind {e} {r} f h =
         let same : pick (termAt ns (r .at)) (r .v) ≡ pick (termAt ns at) v =
         f .same ∙ sym (pickOne-firsts k (termsAt ns (at + 1)) v below-total) ∙ ap (λ (x : Forest). pick (first x) v) (sym xor-is) in
-        subst (Grown d e) (ap (λ (t : Term). putIn kind (dissolved t) nil) same) h
+        subst (Grown before e) (ap (λ (t : Term). putIn kind (dissolved t) nil) same) h
 
 -- Several terms: the number of what follows a term tells its own variant from that of the others.
-module _ {letter number next many : List ℕ} {k at v all : ℕ} {d : Draft} (now : OfEach letter number next many k at v all d) (some : k ≡ 0 → ⊥) where
+module _ {letter number next many : List ℕ} {k at v all : ℕ} {d : Written} (now : OfEach letter number next many k at v all d) (some : k ≡ 0 → ⊥) where
   abbrev nodes-all : List Node
   nodes-all = nodesOf letter number
 
@@ -295,7 +313,7 @@ module _ {letter number next many : List ℕ} {k at v all : ℕ} {d : Draft} (no
     pub first-ready : OfTerm letter number next many at (digits .first) d
     first-ready = record { going = now .going; inside = each-inside; below = first-below }
 
-    module _ (kind : ℕ) {e : Draft} (h : Grown d e (partsOf kind (termAt nodes-all at) (digits .first))) where
+    module _ (kind : ℕ) {e : Written} (h : Grown d e (partsOf kind (termAt nodes-all at) (digits .first))) where
       pub others-ready : OfEach letter number next many (k - 1) (getD next at 0) (digits .rest) (digits .others) e
       unfolding size nodes
       others-ready =
@@ -322,14 +340,14 @@ module _ {letter number next many : List ℕ} {k at v all : ℕ} {d : Draft} (no
             below = rw digits-are (mod-lt v some-there);
           }
 
-      pub all-grown : {r : Draft} → Grown e r (partsOfEach kind those (digits .rest)) → Grown d r (partsOfEach kind (firsts k (termsAt nodes-all at)) v)
+      pub all-grown : {r : Written} → Grown e r (partsOfEach kind those (digits .rest)) → Grown d r (partsOfEach kind (firsts k (termsAt nodes-all at)) v)
       all-grown {r} g =
           subst (Grown d r)
           (rw digits-are (parts-cons kind (termAt nodes-all at) those v) ∙ ap (λ (f : Forest). partsOfEach kind f v) (sym firsts-is))
           (grown-more h g)
 
 -- No terms: nothing is written.
-pub none-grown : (kind k : ℕ) (f : Forest) (v : ℕ) {d : Draft} → k ≡ 0 → Held d → Grown d d (partsOfEach kind (firsts k f) v)
+pub none-grown : (kind k : ℕ) (f : Forest) (v : ℕ) {d : Written} → k ≡ 0 → Held d → Grown d d (partsOfEach kind (firsts k f) v)
 unfolding partsOfEach firsts pick dissolved
 none-grown kind k f v {d} e h = subst (λ (n : ℕ). Grown d d (partsOfEach kind (firsts n f) v)) (sym e) (grown-none h)
 
@@ -381,7 +399,7 @@ module _ (n : ℕ) (letter number : List ℕ) {next many : List ℕ} {v : ℕ} (
         ap length (append-nil (nodes (now .term))),
       )
 
-  pub start-ready : {d : Draft} → Held d → d .at ≡ 0 → OfTerm (take n letter) (take n number) next many 0 v d
+  pub start-ready : {d : Written} → Held d → d .at ≡ 0 → OfTerm (take n letter) (take n number) next many 0 v d
   unfolding size
   start-ready h blank =
       record {
@@ -398,7 +416,7 @@ module _ (n : ℕ) (letter number : List ℕ) {next many : List ℕ} {v : ℕ} (
         below = whole-below;
       }
 
-  pub chose : {d r : Draft} → d .at ≡ 0 → Grown d r (partsOf 0 (termAt given 0) v) → (t : Term) → termOf given ≡ some t
+  pub chose : {d r : Written} → d .at ≡ 0 → Grown d r (partsOf 0 (termAt given 0) v) → (t : Term) → termOf given ≡ some t
       → Chose t v (record { nodes = r .at; letter = r .letter; number = r .number })
   unfolding partsOf nodes
   chose {d} {r} blank g t e =

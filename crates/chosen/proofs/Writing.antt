@@ -11,8 +11,7 @@ use lib.Seq.{length-take-le, take-set-lt, set-at}
 use Rattle.plan.specs.Plan.{Node, nodeOf, nodesOf}
 use Rattle.term.specs.Term.{Term, Forest, act, seq, pll, xor, nil, cons, size, nodes, nodesOfAll}
 use Rattle.variant.specs.Written.{joined}
-use Rattle.chosen.specs.Model.{putBy, putIn, draftNodes, Held, Grown}
-use Rattle.chosen.specs.declared.Draft.{Draft}
+use Rattle.chosen.specs.Model.{putBy, putIn, Written, draftNodes, Held, Grown}
 use Rattle.chosen.proofs.Terms.{length-nodes}
 
 -- Nodes of tables that are set, and that are taken one further.
@@ -90,11 +89,11 @@ pub put-nodes : (kind : ℕ) (t : Term) → length (nodesOfAll (putIn kind t nil
 put-nodes kind t = nodes-put (put-is kind t)
 
 -- Nothing more, and one thing after another.
-pub grown-none : {d : Draft} → Held d → Grown d d nil
+pub grown-none : {d : Written} → Held d → Grown d d nil
 unfolding nodes size
 grown-none {d} h = record { held = h; at = omega arith; children = omega arith; adds = sym (append-nil (draftNodes d)) }
 
-pub grown-more : {d e r : Draft} {f g : Forest} → Grown d e f → Grown e r g → Grown d r (joined f g)
+pub grown-more : {d e r : Written} {f g : Forest} → Grown d e f → Grown e r g → Grown d r (joined f g)
 grown-more {d} {e} {r} {f} {g} x y =
     record {
       held = y .held;
@@ -108,16 +107,16 @@ grown-more {d} {e} {r} {f} {g} x y =
     }
 
 -- A node whose room was left before its children.
-abbrev pub opening : Draft → Draft
+abbrev pub opening : Written → Written
 opening d = record { at = d .at + 1; children = 0; letter = d .letter; number = d .number }
 
-abbrev pub closing : Draft → Draft → ℕ → ℕ → Draft
+abbrev pub closing : Written → Written → ℕ → ℕ → Written
 closing r d l k = record { at = r .at; children = d .children + 1; letter = set (r .letter) (d .at) l; number = set (r .number) (d .at) k }
 
-pub held-opening : {d : Draft} → Held d → Held (opening d)
+pub held-opening : {d : Written} → Held d → Held (opening d)
 held-opening h = record { letters = h .letters; numbers = h .numbers; children = omega arith }
 
-pub grown-group : {d r : Draft} {f : Forest} (l k : ℕ) (t : Term) → Held d → d .at < 64 → Grown (opening d) r f → nodes t ≡ nodeOf l k ∷ nodesOfAll f
+pub grown-group : {d r : Written} {f : Forest} (l k : ℕ) (t : Term) → Held d → d .at < 64 → Grown (opening d) r f → nodes t ≡ nodeOf l k ∷ nodesOfAll f
     → Grown d (closing r d l k) (cons t nil)
 unfolding nodes size
 grown-group {d} {r} {f} l k t h b g e =

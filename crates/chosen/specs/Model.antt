@@ -115,23 +115,33 @@ partsOf kind t v = putIn kind (dissolved (pick t v)) nil
 unfoldable pub partsOfEach : ℕ → Forest → ℕ → Forest
 partsOfEach kind f v = dissolvedIn (putIn kind) (pickEach f v)
 
--- What is written so far, and what one step adds to it.
-abbrev pub draftNodes : Draft → List Node
+-- What is written so far: a draft, and the tables that it speaks of.
+pub record Written : Type 0 where
+  pub at : ℕ
+  pub children : ℕ
+  pub letter : List ℕ
+  pub number : List ℕ
+
+abbrev pub written : Draft → List ℕ → List ℕ → Written
+written d letter number = record { at = d .at; children = d .children; letter = letter; number = number }
+
+-- Its nodes, and what one step adds to them.
+abbrev pub draftNodes : Written → List Node
 draftNodes d = nodesOf (take (d .at) (d .letter)) (take (d .at) (d .number))
 
-pub record Held (d : Draft) : Type 0 where
+pub record Held (d : Written) : Type 0 where
   pub letters : length (d .letter) ≡ 64
   pub numbers : length (d .number) ≡ 64
   pub children : d .children ≤ d .at
 
-pub record Grown (d r : Draft) (f : Forest) : Type 0 where
+pub record Grown (d r : Written) (f : Forest) : Type 0 where
   pub held : Held r
   pub at : r .at ≡ d .at + length (nodesOfAll f)
   pub children : r .children ≡ d .children + size f
   pub adds : draftNodes r ≡ draftNodes d ++ nodesOfAll f
 
 -- What every step needs: right tables, and room for all that is still to be read.
-pub record Going (letter number next many : List ℕ) (at : ℕ) (d : Draft) : Type 0 where
+pub record Going (letter number next many : List ℕ) (at : ℕ) (d : Written) : Type 0 where
   pub even : length letter ≡ length number
   pub short : length (nodesOf letter number) ≤ 64
   pub enough : Enough (nodesOf letter number)
@@ -139,12 +149,12 @@ pub record Going (letter number next many : List ℕ) (at : ℕ) (d : Draft) : T
   pub held : Held d
   pub room : d .at + length (nodesOfAll (termsAt (nodesOf letter number) at)) ≤ 64
 
-pub record OfTerm (letter number next many : List ℕ) (at v : ℕ) (d : Draft) : Type 0 where
+pub record OfTerm (letter number next many : List ℕ) (at v : ℕ) (d : Written) : Type 0 where
   pub going : Going letter number next many at d
   pub inside : at < length (nodesOf letter number)
   pub below : v < count (termAt (nodesOf letter number) at)
 
-pub record OfEach (letter number next many : List ℕ) (k at v all : ℕ) (d : Draft) : Type 0 where
+pub record OfEach (letter number next many : List ℕ) (k at v all : ℕ) (d : Written) : Type 0 where
   pub going : Going letter number next many at d
   pub enough : k ≤ size (termsAt (nodesOf letter number) at)
   pub counts : all ≡ product (firsts k (termsAt (nodesOf letter number) at))

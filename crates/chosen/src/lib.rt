@@ -8,7 +8,7 @@ ghost use Rattle.plan.specs.Limits.{mostVariants};
 ghost use Rattle.plan.specs.Plan.{Node, nodesOf};
 ghost use Rattle.term.specs.Term.{Term, firsts, termOf};
 ghost use Rattle.chosen.specs.Chosen.{nodesIn, Accepted, Choosable, Chose};
-ghost use Rattle.chosen.specs.Model.{Spanned, combine, Walk, Walked, Begun, Ended, Apart, Found, partsOf, partsOfEach, termAt, termsAt, Grown, OfTerm, OfEach};
+ghost use Rattle.chosen.specs.Model.{Spanned, combine, Walk, Walked, Begun, Ended, Apart, Found, partsOf, partsOfEach, termAt, termsAt, written, Grown, OfTerm, OfEach};
 
 // For each node, where the term that it begins ends, and how many variants that term has.
 pub struct Spans {
@@ -41,12 +41,10 @@ struct Digits {
     others: u32,
 }
 
-// The nodes written so far, and how many children the group that is being written has.
+// How many nodes are written so far, and how many children the group that is being written has.
 struct Draft {
     at: usize,
     children: u8,
-    letter: [u8; 64],
-    number: [u8; 64],
 }
 
 // The spans of the nodes of an accepted plan, from the last node to the first: a node's children stand behind it.
@@ -125,33 +123,34 @@ fn alternative(next: &[usize; 64], count: &[u32; 64], from: usize, v: u32) -> Pl
 // Room for one node, whose children follow.
 fn opened(d: Draft) -> Draft
     requires { ⌜ d .at < 64 ⌝ }
-    ensures { λ r. ⌜ r ≡ record { at = d .at + 1; children = 0; letter = d .letter; number = d .number } ⌝ }
+    ensures { λ r. ⌜ r ≡ record { at = d .at + 1; children = 0 } ⌝ }
 {
-    let letter = d.letter;
-    let number = d.number;
     Draft {
         at: d.at + 1,
         children: 0,
-        letter,
-        number,
     }
 }
 
 // Puts a node into the room that was left for it behind `outer`, where it is one more child of the group being written.
-fn closed(d: Draft, outer: Draft, letter: u8, number: u8) -> Draft
+fn closed(
+    d: Draft,
+    outer: Draft,
+    letter: u8,
+    number: u8,
+    letters: &mut [u8; 64],
+    numbers: &mut [u8; 64],
+) -> Draft
     requires { ⌜ (outer .at < 64) × (outer .children < 64) ⌝ }
-    ensures { λ r. ⌜ r ≡ record { at = d .at; children = outer .children + 1; letter = set (d .letter) (outer .at) letter; number = set (d .number) (outer .at) number } ⌝ }
+    ensures { λ r. ⌜ r ≡ record { at = d .at; children = outer .children + 1 } ⌝ }
+    ensures { λ _. ⌜ now (letters .exit) ≡ set (now (letters .entry)) (outer .at) letter ⌝ }
+    ensures { λ _. ⌜ now (numbers .exit) ≡ set (now (numbers .entry)) (outer .at) number ⌝ }
 {
     let at = outer.at;
-    let mut letters = d.letter;
-    let mut numbers = d.number;
     letters[at] = letter;
     numbers[at] = number;
     Draft {
         at: d.at,
         children: outer.children + 1,
-        letter: letters,
-        number: numbers,
     }
 }
 
@@ -179,17 +178,32 @@ fn term(
     at: usize,
     v: u32,
     d: Draft,
+    letters: &mut [u8; 64],
+    numbers: &mut [u8; 64],
 ) -> Draft
-    requires { ⌜ OfTerm (now letter) (now number) (now next) (now count) at v d ⌝ }
-    ensures { λ r. ⌜ Grown d r (partsOf kind (termAt (nodesOf (now (letter .entry)) (now (number .entry))) at) v) ⌝ }
+    requires { ⌜ OfTerm (now letter) (now number) (now next) (now count) at v (written d (now letters) (now numbers)) ⌝ }
+    ensures { λ r. ⌜ Grown (written d (now (letters .entry)) (now (numbers .entry))) (written r (now (letters .exit)) (now (numbers .exit))) (partsOf kind (termAt (nodesOf (now (letter .entry)) (now (number .entry))) at) v) ⌝ }
 {
     let l = letter[at];
     let k = number[at];
     match l {
-        b'a' => closed(opened(d), d, l, k),
+        b'a' => closed(opened(d), d, l, k, letters, numbers),
         b's' | b'p' => {
             if l == kind {
-                each(letter, number, next, count, l, k, at + 1, v, count[at], d)
+                each(
+                    letter,
+                    number,
+                    next,
+                    count,
+                    l,
+                    k,
+                    at + 1,
+                    v,
+                    count[at],
+                    d,
+                    letters,
+                    numbers,
+                )
             } else {
                 let inner = each(
                     letter,
@@ -202,13 +216,26 @@ fn term(
                     v,
                     count[at],
                     opened(d),
+                    letters,
+                    numbers,
                 );
-                closed(inner, d, l, inner.children)
+                closed(inner, d, l, inner.children, letters, numbers)
             }
         }
         _ => {
             let one = alternative(next, count, at + 1, v);
-            term(letter, number, next, count, kind, one.at, one.v, d)
+            term(
+                letter,
+                number,
+                next,
+                count,
+                kind,
+                one.at,
+                one.v,
+                d,
+                letters,
+                numbers,
+            )
         }
     }
 }
@@ -225,15 +252,28 @@ fn each(
     v: u32,
     all: u32,
     d: Draft,
+    letters: &mut [u8; 64],
+    numbers: &mut [u8; 64],
 ) -> Draft
-    requires { ⌜ OfEach (now letter) (now number) (now next) (now count) k at v all d ⌝ }
-    ensures { λ r. ⌜ Grown d r (partsOfEach kind (firsts k (termsAt (nodesOf (now (letter .entry)) (now (number .entry))) at)) v) ⌝ }
+    requires { ⌜ OfEach (now letter) (now number) (now next) (now count) k at v all (written d (now letters) (now numbers)) ⌝ }
+    ensures { λ r. ⌜ Grown (written d (now (letters .entry)) (now (numbers .entry))) (written r (now (letters .exit)) (now (numbers .exit))) (partsOfEach kind (firsts k (termsAt (nodesOf (now (letter .entry)) (now (number .entry))) at)) v) ⌝ }
 {
     if k == 0 {
         return d;
     }
     let digits = split(v, all, count[at]);
-    let first = term(letter, number, next, count, kind, at, digits.first, d);
+    let first = term(
+        letter,
+        number,
+        next,
+        count,
+        kind,
+        at,
+        digits.first,
+        d,
+        letters,
+        numbers,
+    );
     each(
         letter,
         number,
@@ -245,6 +285,8 @@ fn each(
         digits.rest,
         digits.others,
         first,
+        letters,
+        numbers,
     )
 }
 
@@ -256,12 +298,9 @@ pub fn choose(letter: [u8; 64], number: [u8; 64], nodes: usize, spans: Spans, v:
     let next = spans.next;
     let count = spans.count;
     let start = Place { at: 0, v };
-    let blank = Draft {
-        at: 0,
-        children: 0,
-        letter: [0; 64],
-        number: [0; 64],
-    };
+    let blank = Draft { at: 0, children: 0 };
+    let mut letters = [0; 64];
+    let mut numbers = [0; 64];
     let d = term(
         &letter[..nodes],
         &number[..nodes],
@@ -271,12 +310,12 @@ pub fn choose(letter: [u8; 64], number: [u8; 64], nodes: usize, spans: Spans, v:
         start.at,
         start.v,
         blank,
+        &mut letters,
+        &mut numbers,
     );
-    let letter = d.letter;
-    let number = d.number;
     Chosen {
         nodes: d.at,
-        letter,
-        number,
+        letter: letters,
+        number: numbers,
     }
 }

@@ -21,23 +21,23 @@ use Rattle.chosen.proofs.+each+term.{statement}
 use Rattle.chosen.proofs.+each+term.Tie.{close}
 
 -- The nodes left over, twice, and one more before the first of several terms.
-abbrev μ-each : Measures 4 each-kinds.ps ℕ
+abbrev μ-each : Measures 6 each-kinds.ps ℕ
 μ-each κs a = 2 * (length (a .0 .now) - a .1 .1 .1 .1 .1 .1 .0) + 1
 
-abbrev μ-term : Measures 4 term-kinds.ps ℕ
+abbrev μ-term : Measures 6 term-kinds.ps ℕ
 μ-term κs a = 2 * (length (a .0 .now) - a .1 .1 .1 .1 .1 .0)
 
-abbrev each-at : ℕ → In 4 each-kinds.ps
-each-at t = and 4 each-kinds.ps (is 4 each-kinds.ps μ-each t) each.Pre
+abbrev each-at : ℕ → In 6 each-kinds.ps
+each-at t = and 6 each-kinds.ps (is 6 each-kinds.ps μ-each t) each.Pre
 
-abbrev each-below : ℕ → In 4 each-kinds.ps
-each-below t = and 4 each-kinds.ps (falls 4 each-kinds.ps _<_ μ-each t) each.Pre
+abbrev each-below : ℕ → In 6 each-kinds.ps
+each-below t = and 6 each-kinds.ps (falls 6 each-kinds.ps _<_ μ-each t) each.Pre
 
-abbrev term-at : ℕ → In 4 term-kinds.ps
-term-at t = and 4 term-kinds.ps (is 4 term-kinds.ps μ-term t) term.Pre
+abbrev term-at : ℕ → In 6 term-kinds.ps
+term-at t = and 6 term-kinds.ps (is 6 term-kinds.ps μ-term t) term.Pre
 
-abbrev term-below : ℕ → In 4 term-kinds.ps
-term-below t = and 4 term-kinds.ps (falls 4 term-kinds.ps _<_ μ-term t) term.Pre
+abbrev term-below : ℕ → In 6 term-kinds.ps
+term-below t = and 6 term-kinds.ps (falls 6 term-kinds.ps _<_ μ-term t) term.Pre
 
 abbrev each-calls : ℕ → each-lts.Claims
 each-calls t = (split-reads.Asked, split-reads.Learnt, term-below t, term.Post, each-below t, each.Post)
@@ -73,32 +73,42 @@ module _ (t : ℕ) where
 
   each-term-requires : each-lts.Need-term-requires (each-calls t) (each-at t) each.Post
   each-term-requires c κs =
-      let s = c .before .before .before .before .before in
-      let some = c .before .before .if1 .left in
-      (fall-first (length (s .args .letter .now)) (s .args .at) t (s .pre .0), first-ready (s .pre .1) some (c .split .ensures))
+      let one = c .before .before .before .before in
+      let s = one .before .before .before in
+      (fall-first (length (s .args .letter .now)) (s .args .at) t (s .pre .0), first-ready (s .pre .1) (one .if1 .left) (c .before .before .split .ensures))
 
   each-sub-each : each-lts.Need-sub-each (each-calls t) (each-at t) each.Post
-  each-sub-each c = each-some (c .before .before .before .before .before .before .pre .1) (c .before .before .before .if1 .left)
+  each-sub-each c =
+      let one = c .before .before .before .before .before in
+      each-some (one .before .before .before .pre .1) (one .if1 .left)
 
   each-mul-each : each-lts.Need-mul-each (each-calls t) (each-at t) each.Post
-  each-mul-each c = omega (arith, each-in-tables (c .before .before .before .before .before .before .pre .1) (c .before .before .before .if1 .left))
+  each-mul-each c =
+      let one = c .before .before .before .before .before in
+      omega (arith, each-in-tables (one .before .before .before .pre .1) (one .if1 .left))
 
   each-element-copy-out-each : each-lts.Need-element-copy-out-each (each-calls t) (each-at t) each.Post
-  each-element-copy-out-each c = each-in-tables (c .before .before .before .before .before .before .pre .1) (c .before .before .before .if1 .left)
+  each-element-copy-out-each c =
+      let one = c .before .before .before .before .before in
+      each-in-tables (one .before .before .before .pre .1) (one .if1 .left)
 
   each-each-requires : each-lts.Need-each-requires (each-calls t) (each-at t) each.Post
   each-each-requires c κs =
-      let s = c .before .before .before .before .before .before .before in
-      let some = c .before .before .before .before .if1 .left in (
+      let first = c .before .before .before in
+      let digits = first .before .before .before in
+      let some = digits .before .before .if1 .left in
+      let s = digits .before .before .before .before .before in (
         fall-others (length (s .args .letter .now)) (s .args .at) _ t (each-in-letters (s .pre .1) some) (each-later (s .pre .1) some) (s .pre .0),
-        others-ready (s .pre .1) some (c .before .before .split .ensures) (s .args .kind) (c .before .term .ensures),
+        others-ready (s .pre .1) some (digits .split .ensures) (s .args .kind) (first .term .ensures),
       )
 
   each-returns-2 : each-lts.Need-returns-2 (each-calls t) (each-at t) each.Post
   each-returns-2 c =
-      let s = c .before .before .before .before .before .before .before .before in
-      let some = c .before .before .before .before .before .if1 .left in
-      all-grown (s .pre .1) some (c .before .before .before .split .ensures) (s .args .kind) (c .before .before .term .ensures) (c .each .ensures)
+      let first = c .before .before .before .before in
+      let digits = first .before .before .before in
+      let some = digits .before .before .if1 .left in
+      let s = digits .before .before .before .before .before in
+      all-grown (s .pre .1) some (digits .split .ensures) (s .args .kind) (first .term .ensures) (c .each .ensures)
 
   term-shared-slice-read-l : term-lts.Need-shared-slice-read-l (term-calls t) (term-at t) term.Post
   term-shared-slice-read-l c = in-letters (c .before .before .before .pre .1)
@@ -110,7 +120,7 @@ module _ (t : ℕ) where
   term-opened-requires c κs = draft-room (c .before .before .before .before .before .pre .1) .0
 
   term-closed-requires : term-lts.Need-closed-requires (term-calls t) (term-at t) term.Post
-  term-closed-requires c κs = draft-room (c .before .before .before .before .before .before .pre .1)
+  term-closed-requires c κs = draft-room (c .before .before .before .before .before .before .before .before .pre .1)
 
   term-add-each : term-lts.Need-add-each (term-calls t) (term-at t) term.Post
   term-add-each c = omega (arith, in-tables (c .before .before .before .before .before .before .pre .1))
@@ -123,8 +133,9 @@ module _ (t : ℕ) where
 
   term-each-requires : term-lts.Need-each-requires (term-calls t) (term-at t) term.Post
   term-each-requires c κs =
-      let s = c .before .before .before .before .before .before .before in
-      let group = together _ (c .before .before .match .keys2) in
+      let m = c .before .before .before .before in
+      let s = m .before .before .before .before .before in
+      let group = together _ (m .match .keys2) in
       (fall-children (length (s .args .letter .now)) (s .args .at) t (in-letters (s .pre .1)) (s .pre .0), opened-ready (s .pre .1) group)
 
   term-add-each-2 : term-lts.Need-add-each-2 (term-calls t) (term-at t) term.Post
@@ -141,12 +152,16 @@ module _ (t : ℕ) where
 
   term-each-requires-2 : term-lts.Need-each-requires-2 (term-calls t) (term-at t) term.Post
   term-each-requires-2 c κs =
-      let s = c .before .before .before .before .before .before .before .before in
-      let group = together _ (c .before .before .before .match .keys2) in
-      (fall-children (length (s .args .letter .now)) (s .args .at) t (in-letters (s .pre .1)) (s .pre .0), kept-ready (s .pre .1) group (c .opened2 .ensures))
+      let room = c .before .before in
+      let m = room .before .before .before in
+      let s = m .before .before .before .before .before in
+      let group = together _ (m .match .keys2) in
+      (fall-children (length (s .args .letter .now)) (s .args .at) t (in-letters (s .pre .1)) (s .pre .0), kept-ready (s .pre .1) group (room .opened2 .ensures))
 
   term-closed-requires-2 : term-lts.Need-closed-requires-2 (term-calls t) (term-at t) term.Post
-  term-closed-requires-2 c κs = draft-room (c .before .before .before .before .before .before .before .before .before .pre .1)
+  term-closed-requires-2 c κs =
+      let room = c .before .before .before .before .before in
+      draft-room (room .before .before .before .before .before .before .before .before .pre .1)
 
   term-add-alternative : term-lts.Need-add-alternative (term-calls t) (term-at t) term.Post
   term-add-alternative c = omega (arith, in-tables (c .before .before .before .before .before .pre .1))
@@ -159,36 +174,45 @@ module _ (t : ℕ) where
 
   term-term-requires : term-lts.Need-term-requires (term-calls t) (term-at t) term.Post
   term-term-requires c κs =
-      let s = c .before .before .before .before .before .before in
-      let x = node-xor _ _ (c .before .match .rest .0 .1) (c .before .match .rest .1) in
-      let found = c .alternative .ensures _ (apart-ready (s .pre .1) x) in
+      let one = c .before .before in
+      let m = one .before in
+      let s = m .before .before .before .before .before in
+      let x = node-xor _ _ (m .match .rest .0 .1) (m .match .rest .1) in
+      let found = one .alternative .ensures _ (apart-ready (s .pre .1) x) in
       (fall-one (length (s .args .letter .now)) (s .args .at) _ t (in-letters (s .pre .1)) (found .later) (s .pre .0), one-ready (s .pre .1) x found)
 
   term-returns : term-lts.Need-returns (term-calls t) (term-at t) term.Post
   term-returns c =
-      let s = c .before .before .before .before .before .before .before in
-      act-grown (s .pre .1) (c .before .opened .ensures) (s .args .kind) _ (c .before .before .match .keys1) (c .closed .ensures)
+      let room = c .before .before .before in
+      let m = room .before in
+      let s = m .before .before .before .before .before in
+      act-grown (s .pre .1) (room .opened .ensures) (s .args .kind) (m .match .keys1) (c .closed .ensures)
 
   term-returns-2 : term-lts.Need-returns-2 (term-calls t) (term-at t) term.Post
   term-returns-2 c =
-      let s = c .before .before .before .before .before .before .before .before in
-      let group = together _ (c .before .before .before .match .keys2) in
-      opened-grown (s .pre .1) group (s .args .kind) _ (c .before .before .if1 .taken) (c .each .ensures)
+      let same = c .before .before .before .before in
+      let m = same .before in
+      let s = m .before .before .before .before .before in
+      let group = together _ (m .match .keys2) in
+      opened-grown (s .pre .1) group (s .args .kind) (same .if1 .taken) (c .each .ensures)
 
   term-returns-3 : term-lts.Need-returns-3 (term-calls t) (term-at t) term.Post
   term-returns-3 c =
-      let s = c .before .before .before .before .before .before .before .before .before .before in
-      let group = together _ (c .before .before .before .before .before .match .keys2) in
-      kept-grown (s .pre .1) group (s .args .kind) _ _ _ (c .before .before .before .before .if1 .left)
-      (c .before .before .opened2 .ensures)
-      (c .before .each2 .ensures)
-      (c .closed2 .ensures)
+      let inner = c .before .before .before in
+      let room = inner .before .before .before in
+      let other = room .before .before in
+      let m = other .before in
+      let s = m .before .before .before .before .before in
+      let group = together _ (m .match .keys2) in
+      kept-grown (s .pre .1) group (s .args .kind) (other .if1 .left) (room .opened2 .ensures) (inner .each2 .ensures) (c .closed2 .ensures)
 
   term-returns-4 : term-lts.Need-returns-4 (term-calls t) (term-at t) term.Post
   term-returns-4 c =
-      let s = c .before .before .before .before .before .before .before in
-      let x = node-xor _ _ (c .before .before .match .rest .0 .1) (c .before .before .match .rest .1) in
-      one-grown (s .pre .1) x (s .args .kind) (c .before .alternative .ensures _ (apart-ready (s .pre .1) x)) (c .term .ensures)
+      let one = c .before .before .before in
+      let m = one .before in
+      let s = m .before .before .before .before .before in
+      let x = node-xor _ _ (m .match .rest .0 .1) (m .match .rest .1) in
+      one-grown (s .pre .1) x (s .args .kind) (one .alternative .ensures _ (apart-ready (s .pre .1) x)) (c .term .ensures)
 
 pub +each+term-spec : {M : Type 1} → statement M
 +each+term-spec =

@@ -31,7 +31,7 @@ slice-aggregate-term-2 c =
 
 term-requires : tie.Need-term-requires
 term-requires c κs =
-    let s = c .before .before .before .before .before .before in
+    let s = c .before .before .before .before .before .before .before .before in
     start-ready (s .args .nodes) (s .args .t1) (s .args .t2) (s .pre .0) (letters s) (numbers s) (s .pre .1)
     (record { letters = refl; numbers = refl; children = omega arith })
     refl
@@ -39,7 +39,7 @@ term-requires c κs =
 returns : tie.Need-returns
 returns c =
     let s = c .before .before .before .before .before .before .before .before .before in
-    chose (s .args .nodes) (s .args .t1) (s .args .t2) (s .pre .0) (letters s) (numbers s) (s .pre .1) refl (c .before .before .term .ensures)
+    chose (s .args .nodes) (s .args .t1) (s .args .t2) (s .pre .0) (letters s) (numbers s) (s .pre .1) refl (c .term .ensures)
 
 pub choose-spec : {M : Type 1} → statement M
 choose-spec =
