@@ -11,7 +11,7 @@ use Rattle.schedule.specs.Below.{maxBelow}
 use Rattle.sets.specs.Sets.{most, has}
 use Rattle.scan.proofs.Model.{never, devices, leastBelow}
 use Rattle.members.proofs.Members.{members, fold-members}
-use Rattle.network.specs.Network.{workAt}
+use Rattle.network.specs.Network.{packedAt}
 use Rattle.choices.specs.Work.{endAt, latestOf, soonAt, keyAt, leastAt, choiceAt, Timed}
 
 -- The latest of the ends of a set's members.
@@ -48,17 +48,17 @@ key-fold t w cands =
 
 module _ (t w : List ℕ) (i : ℕ) where
   pub soon-fits : Timed t w → soonAt t w i < 2 ^ 16
-  soon-fits fit = omega (arith, fit .times (32 + i), fit .times (64 + workAt t i % devices))
+  soon-fits fit = omega (arith, fit .times (32 + i), fit .times (64 + packedAt t i % devices))
 
   module _ (k : ℕ) where
-    pub choice-elsewhere : (workAt t i % devices ≡ k % devices → ⊥) → never ≡ choiceAt t w k i
+    pub choice-elsewhere : (packedAt t i % devices ≡ k % devices → ⊥) → never ≡ choiceAt t w k i
     unfolding choiceAt
-    choice-elsewhere ne = rw (ne-eqb (workAt t i % devices) (k % devices) ne)
+    choice-elsewhere ne = rw (ne-eqb (packedAt t i % devices) (k % devices) ne)
 
     pub choice-late : k / devices ≤ soonAt t w i → never ≡ choiceAt t w k i
     unfolding choiceAt
     choice-late l = rw (le-ltb (soonAt t w i) (k / devices) l, and-false)
 
-    pub choice-some : workAt t i % devices ≡ k % devices → soonAt t w i < k / devices → soonAt t w i + workAt t i / devices ≡ choiceAt t w k i
+    pub choice-some : packedAt t i % devices ≡ k % devices → soonAt t w i < k / devices → soonAt t w i + packedAt t i / devices ≡ choiceAt t w k i
     unfolding choiceAt
-    choice-some r l = rw (eq-eqb (workAt t i % devices) (k % devices) r, lt-ltb (soonAt t w i) (k / devices) l)
+    choice-some r l = rw (eq-eqb (packedAt t i % devices) (k % devices) r, lt-ltb (soonAt t w i) (k / devices) l)

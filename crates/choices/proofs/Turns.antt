@@ -19,7 +19,7 @@ use Rattle.sets.specs.Sets.{most, has, meet}
 use Rattle.scan.proofs.Model.{devices}
 use Rattle.members.proofs.Members.{lowest-is, lowest-has, lowest-below, after-less}
 use Rattle.members.specs.Lowest.{lowestOf, afterLowest}
-use Rattle.network.specs.Network.{workAt, predsAt, nextAt, nearAt}
+use Rattle.network.specs.Network.{packedAt, predsAt, nextAt, nearAt}
 use Rattle.choices.specs.Work.{endAt, readyAt, latestOf, Timed, opens, Released, Contests}
 use Rattle.choices.proofs.Folds.{latest-same}
 
@@ -161,7 +161,7 @@ module _ (t : List ℕ) (left cands i : ℕ) (w : List ℕ) where
           record {
             timed =
                 record {
-                  works = so-far .timed .works;
+                  packed = so-far .timed .packed;
                   times = stored x (omega (arith, latest-fits (nearAt t j)));
                   size = length-set w′ (32 + j) x ∙ so-far .timed .size;
                 };
@@ -202,17 +202,17 @@ pub record Known (t : List ℕ) (all rest r : ℕ) : Type 0 where
   pub one : ℕ
   pub member : has all one ≡ true
   pub done : has rest one ≡ false
-  pub wants : workAt t one % devices ≡ r
+  pub wants : packedAt t one % devices ≡ r
 
 -- All but the members of `rest` have been looked at, and `seen` are the resources that they want.
 pub record Rivals (t : List ℕ) (all many seen rest : ℕ) : Type 0 where
   pub low : rest < 2 ^ most
   pub few : many + rest ≤ all
   pub inside : (j : ℕ) → has rest j ≡ true → has all j ≡ true
-  pub marked : (j : ℕ) → has all j ≡ true → has rest j ≡ false → has seen (workAt t j % devices) ≡ true
+  pub marked : (j : ℕ) → has all j ≡ true → has rest j ≡ false → has seen (packedAt t j % devices) ≡ true
   pub known : (r : ℕ) → has seen r ≡ true → Known t all rest r
   pub apart : many ≡ 0 → (j k : ℕ) → has all j ≡ true → has rest j ≡ false → has all k ≡ true → has rest k ≡ false
-      → workAt t j % devices ≡ workAt t k % devices → j ≡ k
+      → packedAt t j % devices ≡ packedAt t k % devices → j ≡ k
   pub some : 0 < many → 0 < afterLowest all
 
 module _ (t : List ℕ) (all : ℕ) (h : all < 2 ^ most) where
@@ -243,19 +243,19 @@ module _ (t : List ℕ) (all : ℕ) (h : all < 2 ^ most) where
 
       -- i's own resource is seen besides.
       abbrev also : ℕ
-      also = bitOr seen (2 ^ (workAt t i % devices))
+      also = bitOr seen (2 ^ (packedAt t i % devices))
 
-      marked-also : (j : ℕ) → has all j ≡ true → has rest′ j ≡ false → has also (workAt t j % devices) ≡ true
+      marked-also : (j : ℕ) → has all j ≡ true → has rest′ j ≡ false → has also (packedAt t j % devices) ≡ true
       marked-also j y n =
           by-cases
           (ℕ-discrete j i)
           (λ e.
-          has-with seen (workAt t i % devices) (workAt t j % devices)
-          ∙ ap (λ (b : Bool). has seen (workAt t j % devices) || b) (eq-eqb (workAt t j % devices) (workAt t i % devices) (ap (λ (x : ℕ). workAt t x % devices) e))
-          ∙ or-true (has seen (workAt t j % devices)))
+          has-with seen (packedAt t i % devices) (packedAt t j % devices)
+          ∙ ap (λ (b : Bool). has seen (packedAt t j % devices) || b) (eq-eqb (packedAt t j % devices) (packedAt t i % devices) (ap (λ (x : ℕ). packedAt t x % devices) e))
+          ∙ or-true (has seen (packedAt t j % devices)))
           (λ ne.
-          has-with seen (workAt t i % devices) (workAt t j % devices)
-          ∙ ap (λ (b : Bool). b || eqb (workAt t j % devices) (workAt t i % devices)) (so-far .marked j y (sym (turn .others j ne) ∙ n)))
+          has-with seen (packedAt t i % devices) (packedAt t j % devices)
+          ∙ ap (λ (b : Bool). b || eqb (packedAt t j % devices) (packedAt t i % devices)) (so-far .marked j y (sym (turn .others j ne) ∙ n)))
 
       -- What has been looked at stays so.
       stays : (r : ℕ) → Known t all rest r → Known t all rest′ r
@@ -270,17 +270,17 @@ module _ (t : List ℕ) (all : ℕ) (h : all < 2 ^ most) where
       known-also : (r : ℕ) → has also r ≡ true → Known t all rest′ r
       known-also r y =
           by-cases
-          (ℕ-discrete r (workAt t i % devices))
+          (ℕ-discrete r (packedAt t i % devices))
           (λ e. record { one = i; member = so-far .inside i (turn .there); done = turn .gone; wants = sym e })
           (λ ne.
           stays r
           (so-far .known r
-          (sym (has-with seen (workAt t i % devices) r ∙ ap (λ (b : Bool). has seen r || b) (ne-eqb r (workAt t i % devices) ne) ∙ or-false (has seen r)) ∙ y)))
+          (sym (has-with seen (packedAt t i % devices) r ∙ ap (λ (b : Bool). has seen r || b) (ne-eqb r (packedAt t i % devices) ne) ∙ or-false (has seen r)) ∙ y)))
 
       -- i is the first on its resource.
-      pub rival-first : has seen (workAt t i % devices) ≡ false → Rivals t all many (bitOr seen (2 ^ (workAt t i % devices))) rest′
+      pub rival-first : has seen (packedAt t i % devices) ≡ false → Rivals t all many (bitOr seen (2 ^ (packedAt t i % devices))) rest′
       rival-first new =
-          let clash : (j : ℕ) → j ≢ i → has all j ≡ true → has rest′ j ≡ false → workAt t j % devices ≡ workAt t i % devices → ⊥ =
+          let clash : (j : ℕ) → j ≢ i → has all j ≡ true → has rest′ j ≡ false → packedAt t j % devices ≡ packedAt t i % devices → ⊥ =
           λ j ne y n e. true-not-false (so-far .marked j y (sym (turn .others j ne) ∙ n)) (ap (has seen) e ∙ new) in
           record {
             low = turn .low;
@@ -292,19 +292,19 @@ module _ (t : List ℕ) (all : ℕ) (h : all < 2 ^ most) where
                 λ z j k a n b m e.
                 by-cases
                 (ℕ-discrete j i)
-                (λ p. by-cases (ℕ-discrete k i) (λ q. p ∙ sym q) (λ ne. absurd (clash k ne b m (sym e ∙ ap (λ (x : ℕ). workAt t x % devices) p))))
+                (λ p. by-cases (ℕ-discrete k i) (λ q. p ∙ sym q) (λ ne. absurd (clash k ne b m (sym e ∙ ap (λ (x : ℕ). packedAt t x % devices) p))))
                 (λ ne.
                 by-cases
                 (ℕ-discrete k i)
-                (λ q. absurd (clash j ne a n (e ∙ ap (λ (x : ℕ). workAt t x % devices) q)))
+                (λ q. absurd (clash j ne a n (e ∙ ap (λ (x : ℕ). packedAt t x % devices) q)))
                 (λ ne′. so-far .apart z j k a (sym (turn .others j ne) ∙ n) b (sym (turn .others k ne′) ∙ m) e));
             some = so-far .some;
           }
 
       -- Another has been seen there: it is no member of `rest`, and i is.
-      pub rival-again : has seen (workAt t i % devices) ≡ true → Rivals t all (many + 1) (bitOr seen (2 ^ (workAt t i % devices))) rest′
+      pub rival-again : has seen (packedAt t i % devices) ≡ true → Rivals t all (many + 1) (bitOr seen (2 ^ (packedAt t i % devices))) rest′
       rival-again old =
-          let other = so-far .known (workAt t i % devices) old in
+          let other = so-far .known (packedAt t i % devices) old in
           record {
             low = turn .low;
             few = omega (arith, so-far .few, turn .fewer);

@@ -10,7 +10,7 @@ use Rattle.schedule.specs.Below.{maxBelow}
 use Rattle.sets.specs.Sets.{most, has, meet}
 use Rattle.scan.proofs.Model.{devices, never, leastBelow}
 use Rattle.members.specs.Lowest.{afterLowest}
-use Rattle.network.specs.Network.{workAt, predsAt, nextAt, nearAt}
+use Rattle.network.specs.Network.{packedAt, predsAt, nextAt, nearAt}
 
 abbrev pub endAt : List ℕ → ℕ → ℕ
 endAt w i = getD w i 0
@@ -27,10 +27,10 @@ latestOf w set = maxBelow most λ j. cond (has set j) (endAt w j) 0
 
 -- The earliest start of a candidate, and its key.
 abbrev pub soonAt : List ℕ → List ℕ → ℕ → ℕ
-soonAt t w i = max (readyAt w i) (freeAt w (workAt t i % devices))
+soonAt t w i = max (readyAt w i) (freeAt w (packedAt t i % devices))
 
 abbrev pub keyAt : List ℕ → List ℕ → ℕ → ℕ
-keyAt t w i = 16 * soonAt t w i + workAt t i
+keyAt t w i = 16 * soonAt t w i + packedAt t i
 
 -- The least key of a set of candidates.
 unfoldable pub leastAt : List ℕ → List ℕ → ℕ → ℕ
@@ -39,11 +39,11 @@ leastAt t w cands = leastBelow most λ i. cond (has cands i) (keyAt t w i) never
 -- The end of a candidate where it is a choice at the key, or `never`.
 unfoldable pub choiceAt : List ℕ → List ℕ → ℕ → ℕ → ℕ
 choiceAt t w key i =
-    cond (eqb (workAt t i % devices) (key % devices) && ltb (soonAt t w i) (key / devices)) (soonAt t w i + workAt t i / devices) never
+    cond (eqb (packedAt t i % devices) (key % devices) && ltb (soonAt t w i) (key / devices)) (soonAt t w i + packedAt t i / devices) never
 
 -- Every time fits 16 bits.
 pub record Timed (t : List ℕ) (w : List ℕ) : Type 0 where
-  pub works : (i : ℕ) → i < most → workAt t i < 2 ^ 16
+  pub packed : (i : ℕ) → i < most → packedAt t i < 2 ^ 16
   pub times : (k : ℕ) → getD w k 0 < 2 ^ 16
   pub size : length w ≡ 80
 
@@ -66,7 +66,7 @@ pub record Opened (t : List ℕ) (set : ℕ) (r : ℕ) : Type 0 where
 
 -- No resource is wanted by two of the set.
 pub record Apart (t : List ℕ) (set : ℕ) : Type 0 where
-  pub apart : (i j : ℕ) → has set i ≡ true → has set j ≡ true → workAt t i % devices ≡ workAt t j % devices → i ≡ j
+  pub apart : (i j : ℕ) → has set i ≡ true → has set j ≡ true → packedAt t i % devices ≡ packedAt t j % devices → i ≡ j
 
 -- How many of the set come after the first on their resource, as far as it is known.
 pub record Contests (t : List ℕ) (set : ℕ) (r : ℕ) : Type 0 where

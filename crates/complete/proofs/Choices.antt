@@ -17,9 +17,9 @@ use Rattle.sets.specs.Sets.{most}
 use Rattle.sets.proofs.Laws.{has-some}
 use Rattle.branching.proofs.Node.{Open, soonest, soonest-le, Ranked, some-open}
 use Rattle.branching.proofs.Tick.{soonestEnd, Tick, Branches}
+use Rattle.scan.proofs.Forced.{least-le, least-of}
 use Rattle.scan.proofs.Model as model
 use Rattle.scan.proofs.Model.{Problem, devices, never}
-use Rattle.complete.proofs.Lists.{least-le, least-of}
 use Rattle.complete.proofs.Shows.{Stands, Shows, frozen, startsAt, workOf, present-has, left-waits, end-at, earliest-is, open-is, open-of}
 
 -- With the duration of an activity that is not among them, the durations of a set are within the sum of all.

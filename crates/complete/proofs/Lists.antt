@@ -57,26 +57,6 @@ singles-at f (suc n) i d l =
     List·getD-append (gather n λ x. f x ∷ []) (f n ∷ []) d i (omega (arith, singles-length f n))
     ∙ singles-at f n i d (omega arith))
 
--- The least below n.
-
-pub least-le : (n : ℕ) (f : ℕ → ℕ) (i : ℕ) → i < n → leastBelow n f ≤ f i
-unfolding leastBelow
-least-le zero f i l = absurd (not-suc-le-zero l)
-least-le (suc n) f i l =
-    by-cases
-    (ℕ-discrete i n)
-    (λ q. omega (arith, ap f q))
-    (λ ne. omega (arith, least-le n f i (omega arith)))
-
-pub least-of : (n : ℕ) (f : ℕ → ℕ) → leastBelow n f < never → (i : ℕ) × (i < n) × (leastBelow n f ≡ f i)
-unfolding leastBelow
-least-of zero f l = absurd (omega arith)
-least-of (suc n) f l =
-    by-cases
-    (decLe (f n) (leastBelow n f))
-    (λ a. (n, omega arith, omega arith))
-    (λ a. let (i, b, e) = least-of n f (omega arith) in (i, omega arith, omega arith))
-
 -- No member in common, where the second set is small.
 pub meets-none : (n a b : ℕ) → b < 2 ^ n → ((i : ℕ) → has a i ≡ true → has b i ≡ true → ⊥) → meet a b ≡ false
 unfolding meet

@@ -57,7 +57,7 @@ both false x y = refl
 -- The rows of the first n activities are filled.
 pub record Begun (durations resources preds : List ℕ) (n : ℕ) (l : List ℕ) : Type 0 where
   pub long : length l ≡ 131
-  pub works : Column (λ j. j) (λ j. 16 * getD durations j 0 + getD resources j 0) n l
+  pub packed : Column (λ j. j) (λ j. 16 * getD durations j 0 + getD resources j 0) n l
   pub befores : Column (λ j. 32 + j) (λ j. getD preds j 0) n l
   pub blank : (at : ℕ) → 64 ≤ at → getD l at 0 ≡ 0
 
@@ -66,7 +66,7 @@ module _ (durations resources preds : List ℕ) where
   begun-none =
       record {
         long = refl;
-        works = column-none (λ j. j) (λ j. 16 * getD durations j 0 + getD resources j 0) 131;
+        packed = column-none (λ j. j) (λ j. 16 * getD durations j 0 + getD resources j 0) 131;
         befores = column-none (λ j. 32 + j) (λ j. getD preds j 0) 131;
         blank = λ at h. zeros 131 at;
       }
@@ -79,9 +79,9 @@ module _ (durations resources preds : List ℕ) where
       let long : length first ≡ 131 = length-set l n (work n) ∙ so-far .long in
       record {
         long = length-set first (32 + n) (getD preds n 0) ∙ long;
-        works =
+        packed =
             column-kept (λ j. j) work (n + 1) first (32 + n) (getD preds n 0) (λ j b q. omega arith)
-            (column-more (λ j. j) work n l (omega (arith, so-far .long)) (λ j ne. ne) (so-far .works));
+            (column-more (λ j. j) work n l (omega (arith, so-far .long)) (λ j ne. ne) (so-far .packed));
         befores =
             column-more (λ j. 32 + j) (λ j. getD preds j 0) n first (omega arith) (λ j ne q. ne (omega arith))
             (column-kept (λ j. 32 + j) (λ j. getD preds j 0) n l n (work n) (λ j b q. omega arith) (so-far .befores));
@@ -93,8 +93,8 @@ module _ (durations resources preds : List ℕ) where
   begun-all n acts l e done =
       record {
         long = done .long;
-        works = λ i h.
-            done .works i h
+        packed = λ i h.
+            done .packed i h
             ∙ ap (λ (k : ℕ). cond (ltb i k) (16 * getD durations i 0 + getD resources i 0) 0) e
             ∙ both (ltb i acts) (getD durations i 0) (getD resources i 0)
             ∙ ap₂ (λ (x y : ℕ). 16 * x + y) (cut durations acts i) (cut resources acts i);

@@ -53,7 +53,7 @@ module _ (durations resources preds : List ℕ) (acts variant cap : ℕ) (l : Li
   pub whole : (r : List ℕ) → Links (withCells l cap variant acts) r → Network durations resources preds acts variant cap r
   whole r links =
       record {
-        works = λ i b. links .before i (omega arith) ∙ columns-kept i (omega arith) ∙ columns .works i b;
+        packed = λ i b. links .before i (omega arith) ∙ columns-kept i (omega arith) ∙ columns .packed i b;
         befores = λ i b. links .before (32 + i) (omega arith) ∙ preds-are i b;
         linked = links .linked;
         capped =

@@ -6,10 +6,11 @@ use mathlib.Core.List.{List}
 use mathlib.Core.Path.{_≡_}
 use lib.ListN.{getD, take}
 use Rattle.sets.specs.Sets.{most, has}
+use Rattle.scan.proofs.Model.{devices, longestDuration}
 
 -- 16 times the duration plus the resource.
-abbrev pub workAt : List ℕ → ℕ → ℕ
-workAt t i = getD t i 0
+abbrev pub packedAt : List ℕ → ℕ → ℕ
+packedAt t i = getD t i 0
 
 -- The predecessors of i.
 abbrev pub predsAt : List ℕ → ℕ → ℕ
@@ -49,7 +50,7 @@ pub record Linked (t : List ℕ) : Type 0 where
 
 -- The table of the first `acts` activities of three lists.
 pub record Network (durations resources preds : List ℕ) (acts variant cap : ℕ) (t : List ℕ) : Type 0 where
-  pub works : (i : ℕ) → i < 32 → workAt t i ≡ 16 * getD (take acts durations) i 0 + getD (take acts resources) i 0
+  pub packed : (i : ℕ) → i < 32 → packedAt t i ≡ 16 * getD (take acts durations) i 0 + getD (take acts resources) i 0
   pub befores : (i : ℕ) → i < 32 → predsAt t i ≡ getD (take acts preds) i 0
   pub linked : Linked t
   pub capped : capOf t ≡ cap
@@ -59,8 +60,8 @@ pub record Network (durations resources preds : List ℕ) (acts variant cap : �
 -- What a caller has to show: every number fits a word, and the sets are of activities.
 pub record Tabled (durations resources preds : List ℕ) (acts variant cap : ℕ) : Type 0 where
   pub few : acts ≤ most
-  pub short : (i : ℕ) → i < acts → getD durations i 0 ≤ 2000
-  pub known : (i : ℕ) → i < acts → getD resources i 0 < 16
+  pub short : (i : ℕ) → i < acts → getD durations i 0 ≤ longestDuration
+  pub known : (i : ℕ) → i < acts → getD resources i 0 < devices
   pub sets : (i : ℕ) → i < acts → getD preds i 0 < 2 ^ most
   pub cell : variant < 2 ^ 16
   pub word : cap < 2 ^ 32

@@ -5,19 +5,20 @@ use mathlib.Core.List.{List}
 use mathlib.Core.Path.{_≡_}
 use lib.Bits.{bitOr}
 use lib.ListN.{length, getD, take}
+use Rattle.scan.proofs.Model.{devices, longestDuration}
 use Rattle.sets.specs.Sets.{most, has}
-use Rattle.network.specs.Network.{workAt, predsAt, nextAt, Linked}
+use Rattle.network.specs.Network.{packedAt, predsAt, nextAt, Linked}
 
 -- Every duration and resource fits its part of a word.
 pub record Filling (durations resources : List ℕ) (acts : ℕ) : Type 0 where
   pub few : acts ≤ most
-  pub short : (i : ℕ) → i < acts → getD durations i 0 ≤ 2000
-  pub known : (i : ℕ) → i < acts → getD resources i 0 < 16
+  pub short : (i : ℕ) → i < acts → getD durations i 0 ≤ longestDuration
+  pub known : (i : ℕ) → i < acts → getD resources i 0 < devices
 
 -- The first two columns of the first `acts` activities, and 0 behind them.
 pub record Columns (durations resources preds : List ℕ) (acts : ℕ) (t : List ℕ) : Type 0 where
   pub long : length t ≡ 131
-  pub works : (i : ℕ) → i < 32 → workAt t i ≡ 16 * getD (take acts durations) i 0 + getD (take acts resources) i 0
+  pub packed : (i : ℕ) → i < 32 → packedAt t i ≡ 16 * getD (take acts durations) i 0 + getD (take acts resources) i 0
   pub befores : (i : ℕ) → i < 32 → predsAt t i ≡ getD (take acts preds) i 0
   pub blank : (at : ℕ) → 64 ≤ at → getD t at 0 ≡ 0
 

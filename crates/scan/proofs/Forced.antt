@@ -17,7 +17,7 @@ use Rattle.schedule.proofs.Below.{cond-le, max-least, max-eq}
 use Rattle.schedule.specs.Sessions.{gather}
 use Rattle.sets.proofs.Laws.{has-none, has-without, meet-not, meet-none, meet-of, size-without}
 use Rattle.sets.specs.Sets.{most, has, meet, size}
-use Rattle.scan.proofs.Model.{Problem, Node, devices, never, leastBelow, ready, earliest, finish, isOpen, keyOf, key, isChoice, freeze, branches, leaves}
+use Rattle.scan.proofs.Model.{Problem, Node, devices, longestDuration, never, leastBelow, ready, earliest, finish, isOpen, keyOf, key, isChoice, freeze, branches, leaves}
 
 -- ---- leaves and branches
 
@@ -92,7 +92,7 @@ dead p s fuel ne none =
 
 -- ---- the least key
 
-least-le : (n : ℕ) (f : ℕ → ℕ) (i : ℕ) → i < n → leastBelow n f ≤ f i
+pub least-le : (n : ℕ) (f : ℕ → ℕ) (i : ℕ) → i < n → leastBelow n f ≤ f i
 unfolding leastBelow
 least-le zero f i l = absurd (not-suc-le-zero l)
 least-le (suc n) f i l =
@@ -101,7 +101,7 @@ least-le (suc n) f i l =
     (λ q. omega (arith, ap f q))
     (λ ne. omega (arith, least-le n f i (omega arith)))
 
-least-of : (n : ℕ) (f : ℕ → ℕ) → leastBelow n f < never → (i : ℕ) × (i < n) × (leastBelow n f ≡ f i)
+pub least-of : (n : ℕ) (f : ℕ → ℕ) → leastBelow n f < never → (i : ℕ) × (i < n) × (leastBelow n f ≡ f i)
 unfolding leastBelow
 least-of zero f l = absurd (omega arith)
 least-of (suc n) f l =
@@ -112,17 +112,14 @@ least-of (suc n) f l =
 
 -- ---- nodes in range, and apart
 
-abbrev pub longest : ℕ
-longest = 2000
-
 -- Every end stays in range, whatever is frozen next.
 pub record Bounded (p : Problem) (s : Node) : Type 0 where
   pub low : s .left < 2 ^ most
   pub long : (i : ℕ) → has (s .left) i ≡ true → 1 ≤ p .duration i
-  pub short : (i : ℕ) → has (s .left) i ≡ true → p .duration i ≤ longest
+  pub short : (i : ℕ) → has (s .left) i ≡ true → p .duration i ≤ longestDuration
   pub known : (i : ℕ) → p .resource i < devices
-  pub early : (i : ℕ) → getD (s .ends) i 0 + longest * size (s .left) most ≤ longest * most
-  pub soon : (r : ℕ) → getD (s .avail) r 0 + longest * size (s .left) most ≤ longest * most
+  pub early : (i : ℕ) → getD (s .ends) i 0 + longestDuration * size (s .left) most ≤ longestDuration * most
+  pub soon : (r : ℕ) → getD (s .avail) r 0 + longestDuration * size (s .left) most ≤ longestDuration * most
 
 -- No two of a set share a resource.
 unfoldable pub Apart : Problem → ℕ → Type 0
@@ -175,18 +172,18 @@ module _ (p : Problem) (s : Node) (bounded : Bounded p s) (i : ℕ) (below : i <
   one-fewer : size (s .left) most ≡ suc (size (s .left - 2 ^ i) most)
   one-fewer = size-without most (s .left) i below (open-left p s i o)
 
-  ready-early : ready p s i ≤ longest * most - longest * size (s .left) most
+  ready-early : ready p s i ≤ longestDuration * most - longestDuration * size (s .left) most
   unfolding ready
   ready-early =
-      max-least most (λ j. cond (has (p .preds i) j) (getD (s .ends) j 0) 0) (longest * most - longest * size (s .left) most)
+      max-least most (λ j. cond (has (p .preds i) j) (getD (s .ends) j 0) 0) (longestDuration * most - longestDuration * size (s .left) most)
       (λ j l. omega (arith, cond-le (has (p .preds i) j) (getD (s .ends) j 0), bounded .early j))
 
-  pub finish-bounded : finish p s i + longest * size (s .left - 2 ^ i) most ≤ longest * most
+  pub finish-bounded : finish p s i + longestDuration * size (s .left - 2 ^ i) most ≤ longestDuration * most
   unfolding finish earliest
   finish-bounded = omega (arith, ready-early, bounded .soon (p .resource i), bounded .short i (open-left p s i o), one-fewer, bounded .early 0)
 
   abbrev InTime : ℕ → Type 0
-  InTime y = y + longest * size (s .left - 2 ^ i) most ≤ longest * most
+  InTime y = y + longestDuration * size (s .left - 2 ^ i) most ≤ longestDuration * most
 
   pub freeze-bounded : Bounded p (freeze p s i)
   unfolding freeze

@@ -30,6 +30,10 @@ width = 32
 abbrev pub devices : ℕ
 devices = 16
 
+-- No activity lasts longer.
+abbrev pub longestDuration : ℕ
+longestDuration = 2000
+
 -- More than any end, and more than any key.
 abbrev pub never : ℕ
 never = 4294967295

@@ -10,9 +10,9 @@ use Rattle.bools.proofs.Bools.{by-bool, true-not-false, and-left, and-right, co
 use Rattle.schedule.proofs.Below.{cond-le, max-least}
 use Rattle.sets.proofs.Laws.{has-none, meet-not, size-without}
 use Rattle.sets.specs.Sets.{most, has, meet, size}
-use Rattle.scan.proofs.Model.{Node, devices, never, ready, earliest, finish, isOpen, keyOf, key, isChoice}
-use Rattle.network.specs.Network.{workAt, predsAt, nextAt}
-use Rattle.search.specs.Tables.{problemOf, longest}
+use Rattle.scan.proofs.Model.{Node, devices, never, ready, earliest, finish, isOpen, keyOf, key, isChoice, longestDuration}
+use Rattle.network.specs.Network.{packedAt, predsAt, nextAt}
+use Rattle.search.specs.Tables.{problemOf}
 use Rattle.choices.specs.Work.{endAt, soonAt, keyAt, leastAt, choiceAt, Timed, opens}
 use Rattle.search.specs.Standing.{Ended, Fit, AtNode}
 use Rattle.search.proofs.Columns.{duration-at, resource-at}
@@ -52,20 +52,20 @@ module _ (t : List ℕ) (fit : Fit t) (left cands latest : ℕ) (w : List ℕ) (
         ap₂ max (at .readied i chosen) (at .free i waits)
         ∙ ap (λ (r : ℕ). max (ready (problemOf t) s i) (getD (s .avail) r 0)) (sym (resource-at t i (omega (arith, below))))
 
-    pub finish-is : soonAt t w i + workAt t i / devices ≡ finish (problemOf t) s i
+    pub finish-is : soonAt t w i + packedAt t i / devices ≡ finish (problemOf t) s i
     unfolding finish
     finish-is = ap₂ _+_ soon-is (sym (duration-at t i (omega (arith, below))))
 
     pub one-fewer : size left most ≡ suc (size (left - 2 ^ i) most)
     one-fewer = size-without most left i below waits
 
-    ready-early : ready (problemOf t) s i ≤ longest * most - longest * size left most
+    ready-early : ready (problemOf t) s i ≤ longestDuration * most - longestDuration * size left most
     unfolding ready
     ready-early =
-        max-least most (λ j. cond (has (problemOf t .preds i) j) (getD (s .ends) j 0) 0) (longest * most - longest * size left most)
+        max-least most (λ j. cond (has (problemOf t .preds i) j) (getD (s .ends) j 0) 0) (longestDuration * most - longestDuration * size left most)
         (λ j l. omega (arith, cond-le (has (problemOf t .preds i) j) (getD (s .ends) j 0), at .early j))
 
-    pub finish-early : finish (problemOf t) s i + longest * size (left - 2 ^ i) most ≤ longest * most
+    pub finish-early : finish (problemOf t) s i + longestDuration * size (left - 2 ^ i) most ≤ longestDuration * most
     unfolding finish earliest
     finish-early =
         omega
@@ -76,10 +76,10 @@ module _ (t : List ℕ) (fit : Fit t) (left cands latest : ℕ) (w : List ℕ) (
     unfolding choiceAt isChoice
     choice-is k =
         let opened : isOpen (problemOf t) s i ≡ true = sym (at .candidates i below) ∙ chosen in
-        let on : eqb (workAt t i % devices) (k % devices) ≡ eqb (problemOf t .resource i) (k % devices) =
+        let on : eqb (packedAt t i % devices) (k % devices) ≡ eqb (problemOf t .resource i) (k % devices) =
         ap (λ (r : ℕ). eqb r (k % devices)) (sym (resource-at t i (omega (arith, below)))) in
         let early : ltb (soonAt t w i) (k / devices) ≡ ltb (earliest (problemOf t) s i) (k / devices) = ap (λ (x : ℕ). ltb x (k / devices)) soon-is in
-        let at-key : eqb (workAt t i % devices) (k % devices) ≡ (isOpen (problemOf t) s i && eqb (problemOf t .resource i) (k % devices)) =
+        let at-key : eqb (packedAt t i % devices) (k % devices) ≡ (isOpen (problemOf t) s i && eqb (problemOf t .resource i) (k % devices)) =
         on ∙ ap (λ (b : Bool). b && eqb (problemOf t .resource i) (k % devices)) (sym opened) in
         ap₂ (λ (b : Bool) (x : ℕ). cond b x never) (ap₂ _&&_ at-key early) finish-is
 

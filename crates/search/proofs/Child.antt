@@ -13,9 +13,9 @@ use Rattle.bools.proofs.Bools.{by-bool, true-not-false, same-bool, both, and-le
 use Rattle.schedule.proofs.Below.{max-term, max-eq}
 use Rattle.sets.proofs.Laws.{meet-at, meet-not, meet-none}
 use Rattle.sets.specs.Sets.{most, has, meet, size}
-use Rattle.scan.proofs.Model.{Node, width, devices, ready, earliest, finish, isOpen, freeze}
-use Rattle.network.specs.Network.{workAt, predsAt, nextAt, nearAt}
-use Rattle.search.specs.Tables.{problemOf, longest}
+use Rattle.scan.proofs.Model.{Node, width, devices, ready, earliest, finish, isOpen, freeze, longestDuration}
+use Rattle.network.specs.Network.{packedAt, predsAt, nextAt, nearAt}
+use Rattle.search.specs.Tables.{problemOf}
 use Rattle.search.specs.Seen.{latestEnd}
 use Rattle.choices.specs.Work.{endAt, readyAt, freeAt, opens, Released}
 use Rattle.search.specs.Standing.{Fit, AtNode, Beside}
@@ -64,7 +64,7 @@ module _ (t : List ℕ) (fit : Fit t) (left cands latest : ℕ) (w : List ℕ) (
           cond-true (getD (s .ends) k 0) 0 h,
         )
 
-    finish-long : workAt t i / devices + ready (problemOf t) s i ≤ finish (problemOf t) s i
+    finish-long : packedAt t i / devices + ready (problemOf t) s i ≤ finish (problemOf t) s i
     unfolding finish earliest
     finish-long = omega (arith, duration-at t i (omega (arith, low)))
 
@@ -154,23 +154,23 @@ module _ (t : List ℕ) (fit : Fit t) (left cands latest : ℕ) (w : List ℕ) (
         ap (λ (x : ℕ). max x (finish (problemOf t) s i)) (at .last)
         ∙ sym (latest-set (s .ends) i (finish (problemOf t) s i) low wide (at .unfrozen i member))
 
-    early′ : (j : ℕ) → getD (freeze (problemOf t) s i .ends) j 0 + longest * size (left - 2 ^ i) most ≤ longest * most
+    early′ : (j : ℕ) → getD (freeze (problemOf t) s i .ends) j 0 + longestDuration * size (left - 2 ^ i) most ≤ longestDuration * most
     unfolding freeze
     early′ j =
-        store-either (λ y. y + longest * size (left - 2 ^ i) most ≤ longest * most) (s .ends) i (finish (problemOf t) s i) j
+        store-either (λ y. y + longestDuration * size (left - 2 ^ i) most ≤ longestDuration * most) (s .ends) i (finish (problemOf t) s i) j
         (λ e. finish-early t fit left cands latest w s at i chosen) (omega (arith, at .early j, one-fewer t fit left cands latest w s at i chosen))
 
-    soon′ : (r : ℕ) → getD (freeze (problemOf t) s i .avail) r 0 + longest * size (left - 2 ^ i) most ≤ longest * most
+    soon′ : (r : ℕ) → getD (freeze (problemOf t) s i .avail) r 0 + longestDuration * size (left - 2 ^ i) most ≤ longestDuration * most
     unfolding freeze
     soon′ r =
-        store-either (λ y. y + longest * size (left - 2 ^ i) most ≤ longest * most) (s .avail) (problemOf t .resource i) (finish (problemOf t) s i) r
+        store-either (λ y. y + longestDuration * size (left - 2 ^ i) most ≤ longestDuration * most) (s .avail) (problemOf t .resource i) (finish (problemOf t) s i) r
         (λ e. finish-early t fit left cands latest w s at i chosen) (omega (arith, at .soon r, one-fewer t fit left cands latest w s at i chosen))
 
-    ran′ : (j : ℕ) → j < most → (getD (freeze (problemOf t) s i .ends) j 0 ≡ 0 → ⊥) → workAt t j / devices ≤ getD (freeze (problemOf t) s i .ends) j 0
+    ran′ : (j : ℕ) → j < most → (getD (freeze (problemOf t) s i .ends) j 0 ≡ 0 → ⊥) → packedAt t j / devices ≤ getD (freeze (problemOf t) s i .ends) j 0
     unfolding freeze
     ran′ j l =
-        store-either (λ y. (y ≡ 0 → ⊥) → workAt t j / devices ≤ y) (s .ends) i (finish (problemOf t) s i) j
-        (λ e ne. omega (arith, ap (λ (k : ℕ). workAt t k / devices) e, finish-long)) (at .ran j l)
+        store-either (λ y. (y ≡ 0 → ⊥) → packedAt t j / devices ≤ y) (s .ends) i (finish (problemOf t) s i) j
+        (λ e ne. omega (arith, ap (λ (k : ℕ). packedAt t k / devices) e, finish-long)) (at .ran j l)
 
     ends-wide′ : length (freeze (problemOf t) s i .ends) ≡ width
     unfolding freeze
@@ -185,7 +185,7 @@ module _ (t : List ℕ) (fit : Fit t) (left cands latest : ℕ) (w : List ℕ) (
         → endAt w₁ i ≡ finish (problemOf t) s i
         → ((j : ℕ) → j < most → j ≢ i → endAt w₁ j ≡ endAt w j)
         → ((j : ℕ) → j < most → readyAt w₁ j ≡ readyAt w j)
-        → ((j : ℕ) → has (left - 2 ^ i) j ≡ true → freeAt w₁ (workAt t j % devices) ≡ getD (freeze (problemOf t) s i .avail) (workAt t j % devices) 0)
+        → ((j : ℕ) → has (left - 2 ^ i) j ≡ true → freeAt w₁ (packedAt t j % devices) ≡ getD (freeze (problemOf t) s i .avail) (packedAt t j % devices) 0)
         → Released t (left - 2 ^ i) (cands - 2 ^ i) i w₁ w₂ next
         → AtNode t (left - 2 ^ i) next (max latest (finish (problemOf t) s i)) w₂ (freeze (problemOf t) s i)
     child w₁ w₂ next here away kept freed released =
@@ -203,7 +203,7 @@ module _ (t : List ℕ) (fit : Fit t) (left cands latest : ℕ) (w : List ℕ) (
           frozen = λ j l n. same-end j l ∙ ends j l n;
           free =
               λ j h.
-              released .same (64 + workAt t j % devices) (λ k m o e. absurd (omega (arith, m, e)))
+              released .same (64 + packedAt t j % devices) (λ k m o e. absurd (omega (arith, m, e)))
               ∙ freed j h;
           candidates = λ j l. released .found j l ∙ sym (opened-is j l);
           readied =
@@ -245,7 +245,7 @@ beside-node t left cands latest w w′ s b at =
       inside = at .inside;
       low = at .low;
       frozen = λ i l n. b .ends i l n ∙ at .frozen i l n;
-      free = λ i h. b .free (workAt t i % devices) (mod-lt (workAt t i) (zero-lt-suc 15)) ∙ at .free i h;
+      free = λ i h. b .free (packedAt t i % devices) (mod-lt (packedAt t i) (zero-lt-suc 15)) ∙ at .free i h;
       candidates = at .candidates;
       readied = λ i c. b .candidates i (member-below most cands i (at .low) c) c ∙ at .readied i c;
       last = at .last;

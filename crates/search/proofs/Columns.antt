@@ -5,15 +5,15 @@ use mathlib.Core.Path.{_≡_, ap, _∙_}
 use lib.ListN.{getD, take, drop}
 use lib.Seq.{getD-take, getD-drop}
 use Rattle.scan.proofs.Model.{width, devices}
-use Rattle.network.specs.Network.{workAt, predsAt}
+use Rattle.network.specs.Network.{packedAt, predsAt}
 use Rattle.search.specs.Tables.{problemOf}
 
 module _ (t : List ℕ) (i : ℕ) (low : i < width) where
-  pub duration-at : problemOf t .duration i ≡ workAt t i / devices
+  pub duration-at : problemOf t .duration i ≡ packedAt t i / devices
   unfolding problemOf
   duration-at = ap (_/ devices) (getD-take width t i 0 low)
 
-  pub resource-at : problemOf t .resource i ≡ workAt t i % devices
+  pub resource-at : problemOf t .resource i ≡ packedAt t i % devices
   unfolding problemOf
   resource-at = ap (_% devices) (getD-take width t i 0 low)
 

@@ -12,9 +12,9 @@ use Rattle.schedule.specs.Below.{maxBelow}
 use Rattle.schedule.proofs.Below.{max-least}
 use Rattle.sets.proofs.Laws.{has-none, has-above, size-le}
 use Rattle.sets.specs.Sets.{most, has, meet, size}
-use Rattle.scan.proofs.Model.{Problem, devices, width, root, scanned, ready, isOpen}
-use Rattle.network.specs.Network.{workAt, predsAt, Network, Tabled}
-use Rattle.search.specs.Tables.{tablesOf, problemOf, longest, Asked}
+use Rattle.scan.proofs.Model.{Problem, devices, width, root, scanned, ready, isOpen, longestDuration}
+use Rattle.network.specs.Network.{packedAt, predsAt, Network, Tabled}
+use Rattle.search.specs.Tables.{tablesOf, problemOf, Asked}
 use Rattle.search.specs.Seen.{Setting, settingOf, settingIn, tallyOf, kept, keptOf, latestEnd, allSeen, Searched}
 use Rattle.search.specs.declared.Tally.{Tally}
 use Rattle.choices.specs.Work.{Timed, Opened}
@@ -62,8 +62,8 @@ module _ (durations resources preds : List ℕ) (acts present variant cap : ℕ)
   known : (i : ℕ) → getD (take acts resources) i 0 < devices
   known = cut-all (λ x. x < devices) resources acts (omega arith) (asked .known)
 
-  short : (i : ℕ) → getD (take acts durations) i 0 ≤ longest
-  short = cut-all (λ x. x ≤ longest) durations acts (omega arith) (asked .short)
+  short : (i : ℕ) → getD (take acts durations) i 0 ≤ longestDuration
+  short = cut-all (λ x. x ≤ longestDuration) durations acts (omega arith) (asked .short)
 
   member : (i : ℕ) → has present i ≡ true → i < most
   member i h =
@@ -73,8 +73,8 @@ module _ (durations resources preds : List ℕ) (acts present variant cap : ℕ)
       (λ l. absurd (false≢true (sym (has-above most present i (asked .set) (omega arith)) ∙ h)))
 
   module _ (table : List ℕ) (net : Network durations resources preds acts variant cap table) where
-    duration-is : (i : ℕ) → i < width → workAt table i / devices ≡ getD (take acts durations) i 0
-    duration-is i l = omega (arith, net .works i l, known i)
+    duration-is : (i : ℕ) → i < width → packedAt table i / devices ≡ getD (take acts durations) i 0
+    duration-is i l = omega (arith, net .packed i l, known i)
 
     pub same-problem : problemOf table ≡ tablesOf durations resources preds acts
     unfolding problemOf tablesOf
@@ -96,7 +96,7 @@ module _ (durations resources preds : List ℕ) (acts present variant cap : ℕ)
         resourceAt j =
             by-cases
             (decLt j width)
-            (λ l. omega (arith, getD-take width table j 0 l, net .works j l, known j))
+            (λ l. omega (arith, getD-take width table j 0 l, net .packed j l, known j))
             (λ l. omega (arith, behind table width j (omega arith), behind resources acts j (omega (arith, asked .few))))
 
         predsIs : (j : ℕ) → getD (take width (drop width table)) j 0 ≡ getD (take acts preds) j 0
@@ -119,7 +119,7 @@ module _ (durations resources preds : List ℕ) (acts present variant cap : ℕ)
     pub root-timed : Timed table (replicate 80 0)
     root-timed =
         record {
-          works = λ i l. omega (arith, net .works i (omega arith), known i, short i);
+          packed = λ i l. omega (arith, net .packed i (omega arith), known i, short i);
           times = λ k. omega (arith, zeros 80 k);
           size = refl;
         }
@@ -138,7 +138,7 @@ module _ (durations resources preds : List ℕ) (acts present variant cap : ℕ)
           inside = asked .set;
           low = opened .low;
           frozen = λ i l h. zeros 80 i ∙ sym (zeros width i);
-          free = λ i h. zeros 80 (64 + workAt table i % devices) ∙ sym (zeros devices (workAt table i % devices));
+          free = λ i h. zeros 80 (64 + packedAt table i % devices) ∙ sym (zeros devices (packedAt table i % devices));
           candidates = λ i l. opened .found i l ∙ ap (λ (x : ℕ). has present i && not (meet x present)) (sym (preds-at table i (omega arith)));
           readied = λ i h.
               zeros 80 (32 + i) ∙ max-zeros most (λ j. cond (has (problemOf table .preds i) j) (getD (replicate width 0) j 0) 0)

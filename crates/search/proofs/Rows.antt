@@ -14,7 +14,7 @@ use borrow.Author.Tests.{le-leb, lt-leb, lt-ltb, le-ltb, eq-eqb, ne-eqb}
 use Rattle.schedule.specs.Sessions.{gather}
 use Rattle.scan.proofs.Model.{Problem, width, devices, startOf, starts}
 use Rattle.timetable.specs.Mark.{places}
-use Rattle.network.specs.Network.{workAt, variantOf, actsOf}
+use Rattle.network.specs.Network.{packedAt, variantOf, actsOf}
 use Rattle.search.specs.Tables.{problemOf}
 use Rattle.search.specs.Seen.{Setting, placed, rowOf, settingIn, latestEnd, IsTally, tallyOf, keptOf, better, seen, counted}
 use Rattle.search.proofs.Columns.{duration-at}
@@ -57,7 +57,7 @@ start-below end d h =
     (λ ne. rw (ne-eqb end 0 ne) (omega arith))
 
 -- What the code stores is the start that is due.
-pub stored : (t ends : List ℕ) (n i x : ℕ) → i < n → i < width → x ≡ startOf (getD ends i 0) (workAt t i / devices)
+pub stored : (t ends : List ℕ) (n i x : ℕ) → i < n → i < width → x ≡ startOf (getD ends i 0) (packedAt t i / devices)
     → x ≡ getD (starts (problemOf t) n ends) i 0
 stored t ends n i x h low new =
     new ∙ ap (startOf (getD ends i 0)) (sym (duration-at t i low)) ∙ sym (start-at (problemOf t) n i ends h)

@@ -20,7 +20,7 @@ use Rattle.scan.proofs.Model.{Problem, Node, devices, finish, freeze, startOf, 
 use Rattle.scan.proofs.Forced as forced
 use Rattle.members.specs.Lowest.{lowestOf, afterLowest}
 use Rattle.members.proofs.Members.{lowest-is, lowest-has, lowest-below}
-use Rattle.network.specs.Network.{workAt}
+use Rattle.network.specs.Network.{packedAt}
 use Rattle.search.specs.Tables.{problemOf}
 use Rattle.search.specs.Seen.{Setting, Kept, settingIn, keptOf, IsTally, latestEnd, better, rowOf, counted, seen, Searched}
 use Rattle.choices.specs.Work.{freeAt, soonAt, Timed, opens, Released, Apart}
@@ -102,7 +102,7 @@ module _ (t : List ℕ) (fit : Fit t) (left cands latest : ℕ) (w : List ℕ) (
 
   -- ---- a candidate is frozen: its end is stored, and what waited for it alone is released
 
-  module _ (timed : Timed t w) (apart : Apart t left) (i : ℕ) (chosen : has cands i ≡ true) (x : ℕ) (end : x ≡ soonAt t w i + workAt t i / devices) where
+  module _ (timed : Timed t w) (apart : Apart t left) (i : ℕ) (chosen : has cands i ≡ true) (x : ℕ) (end : x ≡ soonAt t w i + packedAt t i / devices) where
     end-is : x ≡ finish (problemOf t) s i
     end-is = end ∙ finish-is t fit left cands latest w s at i chosen
 
@@ -122,15 +122,15 @@ module _ (t : List ℕ) (fit : Fit t) (left cands latest : ℕ) (w : List ℕ) (
     ends-other j ne = getD-set-other w i j x 0 ne
 
     free-is : (j : ℕ) → has (left - 2 ^ i) j ≡ true
-        → freeAt (set w i x) (workAt t j % devices) ≡ getD (freeze (problemOf t) s i .avail) (workAt t j % devices) 0
+        → freeAt (set w i x) (packedAt t j % devices) ≡ getD (freeze (problemOf t) s i .avail) (packedAt t j % devices) 0
     unfolding freeze
     free-is j h =
         let both : (has left j && not (eqb j i)) ≡ true = sym (has-without left i j left-has) ∙ h in
         let there : has left j ≡ true = and-left (has left j) (not (eqb j i)) both in
         let other : j ≢ i = λ e. true-not-false h (has-without left i j left-has ∙ ap (λ (b : Bool). has left j && not b) (eq-eqb j i e) ∙ and-false (has left j)) in
-        ends-other (64 + workAt t j % devices) (λ e. absurd (omega (arith, inside-is)))
+        ends-other (64 + packedAt t j % devices) (λ e. absurd (omega (arith, inside-is)))
         ∙ at .free j there
-        ∙ sym (getD-set-other (s .avail) (problemOf t .resource i) (workAt t j % devices) (finish (problemOf t) s i) 0
+        ∙ sym (getD-set-other (s .avail) (problemOf t .resource i) (packedAt t j % devices) (finish (problemOf t) s i) 0
         (λ e. other (apart .apart j i there left-has (e ∙ resource-at t i (omega (arith, inside-is))))))
 
     module _ (w₂ : List ℕ) (next : ℕ) (released : Released t (left - 2 ^ i) (cands - 2 ^ i) i (set w i x) w₂ next) where
@@ -252,7 +252,7 @@ module _ {t : List ℕ} {left cands latest : ℕ} {w₀ : List ℕ} {rest next l
         (λ e. true-not-false left-here (ap (λ (a : ℕ). has a i) e ∙ has-none i))
         (λ ne. omega arith)
 
-    module _ {x : ℕ} (end : x ≡ soonAt t w i + workAt t i / devices) where
+    module _ {x : ℕ} (end : x ≡ soonAt t w i + packedAt t i / devices) where
       pub small-here : x < 2 ^ 16
       small-here = end-small t fit rest next last w node-here at-here (h .beside .timed) apart-here i chosen-here x end
 
@@ -341,7 +341,7 @@ last-apart {t} {left} {cands} {latest} {w} fit some single first = single-apart 
 
 -- The last one left is frozen.
 module _ {t : List ℕ} {left cands latest i x : ℕ} {w : List ℕ} (fit : Fit t) (timed : Timed t w) (some : 0 < left) (single : afterLowest left ≡ 0)
-    (first : (s : Node) × AtNode t left cands latest w s) (more : cands ≢ 0) (low : i ≡ lowestOf cands) (end : x ≡ soonAt t w i + workAt t i / devices) where
+    (first : (s : Node) × AtNode t left cands latest w s) (more : cands ≢ 0) (low : i ≡ lowestOf cands) (end : x ≡ soonAt t w i + packedAt t i / devices) where
   start : Settling t left cands latest w left cands latest w
   start = settling-start t left cands latest w timed
 

@@ -13,9 +13,9 @@ use borrow.Author.Tests.{eq-eqb, ne-eqb}
 use Rattle.bools.proofs.Bools.{true-not-false, and-left}
 use Rattle.sets.proofs.Laws.{has-without}
 use Rattle.sets.specs.Sets.{most, has, size}
-use Rattle.scan.proofs.Model.{Problem, Node, devices, finish, freeze}
-use Rattle.network.specs.Network.{workAt}
-use Rattle.search.specs.Tables.{problemOf, longest}
+use Rattle.scan.proofs.Model.{Problem, Node, devices, finish, freeze, longestDuration}
+use Rattle.network.specs.Network.{packedAt}
+use Rattle.search.specs.Tables.{problemOf}
 use Rattle.choices.specs.Work.{endAt, readyAt, freeAt, Timed, opens, Released}
 use Rattle.search.specs.Standing.{Fit, AtNode, Beside}
 use Rattle.search.proofs.Columns.{resource-at}
@@ -25,7 +25,7 @@ use Rattle.search.proofs.Child.{below, waits, finish-is, finish-early, 
 pub timed-store : (t w : List ℕ) (i x : ℕ) → x < 2 ^ 16 → Timed t w → Timed t (set w i x)
 timed-store t w i x l timed =
     record {
-      works = timed .works;
+      packed = timed .packed;
       times = λ k. store-either (λ y. y < 2 ^ 16) w i x k (λ e. l) (timed .times k);
       size = length-set w i x ∙ timed .size;
     }
@@ -62,7 +62,7 @@ module _ {t : List ℕ} {left cands i : ℕ} {w w′ : List ℕ} {next : ℕ} (h
 -- ---- one branch
 
 module _ (t : List ℕ) (fit : Fit t) (left cands latest : ℕ) (w : List ℕ) (timed : Timed t w) (s : Node) (at : AtNode t left cands latest w s)
-    (i : ℕ) (chosen : has cands i ≡ true) (r x : ℕ) (on : r ≡ workAt t i % devices) (end : x ≡ finish (problemOf t) s i) where
+    (i : ℕ) (chosen : has cands i ≡ true) (r x : ℕ) (on : r ≡ packedAt t i % devices) (end : x ≡ finish (problemOf t) s i) where
   abbrev stored : List ℕ
   stored = set (set w i x) (64 + r) x
 
@@ -94,21 +94,21 @@ module _ (t : List ℕ) (fit : Fit t) (left cands latest : ℕ) (w : List ℕ) (
 
   -- On the resource of i the last frozen end is the one stored, on any other it is what it was.
   free-is : (j : ℕ) → has (left - 2 ^ i) j ≡ true
-      → freeAt stored (workAt t j % devices) ≡ getD (freeze (problemOf t) s i .avail) (workAt t j % devices) 0
+      → freeAt stored (packedAt t j % devices) ≡ getD (freeze (problemOf t) s i .avail) (packedAt t j % devices) 0
   unfolding freeze
   free-is j h =
       by-cases
-      (ℕ-discrete (workAt t j % devices) r)
+      (ℕ-discrete (packedAt t j % devices) r)
       (λ e.
       ap (freeAt stored) e ∙ free-here ∙ end
       ∙ sym (ap (λ (k : ℕ). getD (set (s .avail) (problemOf t .resource i) (finish (problemOf t) s i)) k 0) (e ∙ on ∙ sym here)
       ∙ getD-set-same (s .avail) (problemOf t .resource i) (finish (problemOf t) s i) 0 (omega (arith, here, at .avail-wide))))
       (λ ne.
-      free-other (workAt t j % devices) ne
+      free-other (packedAt t j % devices) ne
       ∙ at .free j (and-left (has left j) (not (eqb j i)) (sym (has-without left i j left-has) ∙ h))
-      ∙ sym (getD-set-other (s .avail) (problemOf t .resource i) (workAt t j % devices) (finish (problemOf t) s i) 0 (λ e. ne (e ∙ here ∙ sym on))))
+      ∙ sym (getD-set-other (s .avail) (problemOf t .resource i) (packedAt t j % devices) (finish (problemOf t) s i) 0 (λ e. ne (e ∙ here ∙ sym on))))
     where
-      here : problemOf t .resource i ≡ workAt t i % devices
+      here : problemOf t .resource i ≡ packedAt t i % devices
       here = resource-at t i (omega (arith, within))
 
   pub branch-at : (w₂ : List ℕ) (next : ℕ) → Released t (left - 2 ^ i) (cands - 2 ^ i) i (set (set w i x) (64 + r) x) w₂ next

@@ -6,21 +6,21 @@ use mathlib.Core.Path.{_≡_}
 use lib.ListN.{length, getD}
 use Rattle.sets.specs.Sets.{most, has, size}
 use Rattle.timetable.specs.Mark.{places}
-use Rattle.scan.proofs.Model.{Node, width, devices, ready, isOpen}
-use Rattle.network.specs.Network.{workAt, predsAt, capOf, variantOf, actsOf, Linked}
+use Rattle.scan.proofs.Model.{Node, width, devices, ready, isOpen, longestDuration}
+use Rattle.network.specs.Network.{packedAt, predsAt, capOf, variantOf, actsOf, Linked}
 use Rattle.choices.specs.Work.{endAt, readyAt, freeAt, Timed}
-use Rattle.search.specs.Tables.{problemOf, longest}
+use Rattle.search.specs.Tables.{problemOf}
 use Rattle.search.specs.Seen.{settingIn, keptOf, latestEnd, Searched}
 
 -- What has ended has run its duration.
 pub record Ended (t : List ℕ) (w : List ℕ) : Type 0 where
-  pub ran : (i : ℕ) → i < most → (endAt w i ≡ 0 → ⊥) → workAt t i / devices ≤ endAt w i
+  pub ran : (i : ℕ) → i < most → (endAt w i ≡ 0 → ⊥) → packedAt t i / devices ≤ endAt w i
   pub timed : Timed t w
 
 -- The table is whole, and its numbers are in range.
 pub record Fit (t : List ℕ) : Type 0 where
   pub linked : Linked t
-  pub short : (i : ℕ) → i < most → workAt t i / devices ≤ longest
+  pub short : (i : ℕ) → i < most → packedAt t i / devices ≤ longestDuration
   pub acts : actsOf t ≤ places
   pub variant : variantOf t < 2 ^ 16
   pub cap : capOf t < 2 ^ 32
@@ -31,19 +31,19 @@ pub record AtNode (t : List ℕ) (left : ℕ) (cands : ℕ) (latest : ℕ) (w : 
   pub inside : left < 2 ^ most
   pub low : cands < 2 ^ most
   pub frozen : (i : ℕ) → i < most → has left i ≡ false → endAt w i ≡ getD (s .ends) i 0
-  pub free : (i : ℕ) → has left i ≡ true → freeAt w (workAt t i % devices) ≡ getD (s .avail) (workAt t i % devices) 0
+  pub free : (i : ℕ) → has left i ≡ true → freeAt w (packedAt t i % devices) ≡ getD (s .avail) (packedAt t i % devices) 0
   pub candidates : (i : ℕ) → i < most → has cands i ≡ isOpen (problemOf t) s i
   pub readied : (i : ℕ) → has cands i ≡ true → readyAt w i ≡ ready (problemOf t) s i
   pub last : latest ≡ latestEnd (s .ends)
-  pub long : (i : ℕ) → has left i ≡ true → 1 ≤ workAt t i / devices
+  pub long : (i : ℕ) → has left i ≡ true → 1 ≤ packedAt t i / devices
   pub unfrozen : (i : ℕ) → has left i ≡ true → getD (s .ends) i 0 ≡ 0
   -- every end fits, whatever is still to come
-  pub early : (i : ℕ) → getD (s .ends) i 0 + longest * size left most ≤ longest * most
-  pub soon : (r : ℕ) → getD (s .avail) r 0 + longest * size left most ≤ longest * most
+  pub early : (i : ℕ) → getD (s .ends) i 0 + longestDuration * size left most ≤ longestDuration * most
+  pub soon : (r : ℕ) → getD (s .avail) r 0 + longestDuration * size left most ≤ longestDuration * most
   -- the predecessors of what is frozen are frozen, and end before it
   pub closed : (m k : ℕ) → m < most → has left m ≡ false → has (predsAt t m) k ≡ true → has left k ≡ false
   pub ordered : (m k : ℕ) → m < most → has left m ≡ false → has (predsAt t m) k ≡ true → getD (s .ends) k 0 < getD (s .ends) m 0
-  pub ran : (i : ℕ) → i < most → (getD (s .ends) i 0 ≡ 0 → ⊥) → workAt t i / devices ≤ getD (s .ends) i 0
+  pub ran : (i : ℕ) → i < most → (getD (s .ends) i 0 ≡ 0 → ⊥) → packedAt t i / devices ≤ getD (s .ends) i 0
   pub ends-wide : length (s .ends) ≡ width
   pub avail-wide : length (s .avail) ≡ devices
 

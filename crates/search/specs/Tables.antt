@@ -5,7 +5,7 @@ use mathlib.Core.List.{List}
 use mathlib.Core.Path.{_≡_}
 use lib.ListN.{getD, take, drop}
 use Rattle.sets.specs.Sets.{most, has}
-use Rattle.scan.proofs.Model.{Problem, width, devices}
+use Rattle.scan.proofs.Model.{Problem, width, devices, longestDuration}
 
 -- The tables of a variant, of which the first `acts` entries count.
 unfoldable pub tablesOf : List ℕ → List ℕ → List ℕ → ℕ → Problem
@@ -25,13 +25,10 @@ problemOf t =
       preds = λ i. getD (take width (drop width t)) i 0;
     }
 
-abbrev pub longest : ℕ
-longest = 2000
-
 -- What a caller of the search has to show.
 pub record Asked (durations : List ℕ) (resources : List ℕ) (preds : List ℕ) (acts : ℕ) (present : ℕ) (variant : ℕ) (cap : ℕ) : Type 0 where
   pub few : acts ≤ most
-  pub short : (i : ℕ) → i < acts → getD durations i 0 ≤ longest
+  pub short : (i : ℕ) → i < acts → getD durations i 0 ≤ longestDuration
   pub known : (i : ℕ) → i < acts → getD resources i 0 < devices
   pub sets : (i : ℕ) → i < acts → getD preds i 0 < 2 ^ most
   pub set : present < 2 ^ most

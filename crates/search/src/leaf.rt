@@ -15,14 +15,14 @@ ghost use Rattle.search.specs.Tables.{problemOf};
 ghost use Rattle.search.specs.Seen.{latestEnd, placed, rowOf, settingIn, keptOf, IsTally, tallyOf, better, seen};
 ghost use Rattle.search.specs.Standing.{Ended, Fit};
 
-fn start_of(end: u32, work: u32) -> u16
-    requires { ⌜ (end < 2 ^ 16) × ((end ≡ 0 → ⊥) → work / 16 ≤ end) ⌝ }
-    ensures { λ r. ⌜ r ≡ startOf end (work / 16) ⌝ }
+fn start_of(end: u32, packed: u32) -> u16
+    requires { ⌜ (end < 2 ^ 16) × ((end ≡ 0 → ⊥) → packed / 16 ≤ end) ⌝ }
+    ensures { λ r. ⌜ r ≡ startOf end (packed / 16) ⌝ }
 {
     if end == 0 {
         Timetable::MARK
     } else {
-        (end - work / 16) as u16
+        (end - packed / 16) as u16
     }
 }
 

@@ -4,7 +4,7 @@ use Prim.Native.Nat.{ℕ, _+_, _/_}
 use native.Mathlib.Omega.{arith}
 use borrow.Author.Needs.{needs}
 use Rattle.scan.proofs.Model.{devices}
-use Rattle.network.specs.Network.{workAt}
+use Rattle.network.specs.Network.{packedAt}
 use Rattle.choices.proofs.Folds.{soon-fits, choice-elsewhere, choice-late, choice-some}
 use Rattle.choices.proofs.choice_end.Statement.{statement}
 use Rattle.choices.proofs.choice_end.Tie as tie
@@ -32,12 +32,12 @@ add-result : tie.Need-add-result
 add-result c =
     let at = c .before .before .before .before in
     let a = at .args in
-    record { fits = omega (arith, c .before .earliest-start .ensures, soon-fits (a .table .now) (a .work .now) (a .i) (at .pre .1), at .pre .1 .works (a .i) (at .pre .0)) }
+    record { fits = omega (arith, c .before .earliest-start .ensures, soon-fits (a .table .now) (a .work .now) (a .i) (at .pre .1), at .pre .1 .packed (a .i) (at .pre .0)) }
 
 returns-3 : tie.Need-returns-3
 returns-3 c =
     let a = c .before .before .before .before .args in
-    ap (λ (x : ℕ). x + workAt (a .table .now) (a .i) / devices) (c .before .earliest-start .ensures)
+    ap (λ (x : ℕ). x + packedAt (a .table .now) (a .i) / devices) (c .before .earliest-start .ensures)
     ∙ choice-some (a .table .now) (a .work .now) (a .i) (a .key) (c .before .before .if1 .left) (omega (arith, c .before .earliest-start .ensures))
 
 pub choice-end-spec : {M : Type 1} → statement M

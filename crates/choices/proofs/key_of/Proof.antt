@@ -23,7 +23,7 @@ add-result : tie.Need-add-result
 add-result c =
     let at = c .before .before in
     let a = at .args in
-    record { fits = omega (arith, c .before .earliest-start .ensures, at .pre .1 .works (a .i) (at .pre .0), soon-fits (a .table .now) (a .work .now) (a .i) (at .pre .1)) }
+    record { fits = omega (arith, c .before .earliest-start .ensures, at .pre .1 .packed (a .i) (at .pre .0), soon-fits (a .table .now) (a .work .now) (a .i) (at .pre .1)) }
 
 returns : tie.Need-returns
 returns c = search needs

@@ -5,7 +5,7 @@ use native.Mathlib.Omega.{arith}
 use borrow.Author.Needs.{needs}
 use lib.Bits.{bitOr}
 use Rattle.scan.proofs.Model.{devices}
-use Rattle.network.specs.Network.{workAt}
+use Rattle.network.specs.Network.{packedAt}
 use Rattle.choices.proofs.Turns.{Turn, turned, Rivals, rivals-none, rivals-are, rival-first, rival-again}
 use Rattle.choices.proofs.rivals.Statement.{statement}
 use Rattle.choices.proofs.rivals.Tie as tie
@@ -89,7 +89,7 @@ loop-again : tie.Need-loop-again Inv-loop μ-loop
 loop-again c =
     let l = c .before .before .before .before .before in
     let at = l .before .before .before in
-    let r = workAt (at .before .args .table .now) (l .before .lowest .result) % devices in
+    let r = packedAt (at .before .args .table .now) (l .before .lowest .result) % devices in
     let new : c .before .union .result ≡ bitOr (at .loop .seen) (2 ^ r) = c .before .union .ensures ∙ ap (bitOr (at .loop .seen)) (c .before .before .single .ensures) in
     subst (λ (x : ℕ). Rivals (at .before .args .table .now) (at .before .args .set) (at .loop .many + 1) x (l .after-lowest .result)) (sym new)
     (rival-again (at .before .args .table .now) (at .before .args .set) (at .before .pre) (at .loop .inv) (turn l)
@@ -102,7 +102,7 @@ loop-again-2 : tie.Need-loop-again-2 Inv-loop μ-loop
 loop-again-2 c =
     let l = c .before .before .before .before .before in
     let at = l .before .before .before in
-    let r = workAt (at .before .args .table .now) (l .before .lowest .result) % devices in
+    let r = packedAt (at .before .args .table .now) (l .before .lowest .result) % devices in
     let new : c .before .union .result ≡ bitOr (at .loop .seen) (2 ^ r) = c .before .union .ensures ∙ ap (bitOr (at .loop .seen)) (c .before .before .single .ensures) in
     subst (λ (x : ℕ). Rivals (at .before .args .table .now) (at .before .args .set) (at .loop .many) x (l .after-lowest .result)) (sym new)
     (rival-first (at .before .args .table .now) (at .before .args .set) (at .before .pre) (at .loop .inv) (turn l)

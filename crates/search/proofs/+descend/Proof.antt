@@ -15,7 +15,7 @@ use Rattle.search.specs.Seen.{settingIn, keptOf}
 use Rattle.search.specs.Tables.{problemOf}
 use Rattle.scan.proofs.Model.{Node, devices, never, finish, key, isChoice, freeze, leaves}
 use Rattle.members.proofs.Members.{lowest-below, lowest-has, after-less, after-none, two-left, ended}
-use Rattle.network.specs.Network.{workAt}
+use Rattle.network.specs.Network.{packedAt}
 use Rattle.search.specs.Standing.{AtNode, Beside}
 use Rattle.search.proofs.Child.{waits, key-is, choice-is, finish-early, beside-node}
 use Rattle.search.proofs.Stored.{beside-refl, beside-trans, end-small, stored-timed, node-below, undone}
@@ -145,7 +145,7 @@ module _ (t : ℕ) where
       let a = start h .args in
       let i = lowest-of ch .lowest .result in
       node-below (a .table .now) (start h .pre .1 .0) (a .left) (a .cands) (a .latest) (h .loop .work) (h .loop .inv .beside .timed) s (loop-node h s node) i (member (lowest-of ch))
-      (workAt (a .table .now) i % devices) (ch .before .choice-end .result) refl (stop-is ch s node)
+      (packedAt (a .table .now) i % devices) (ch .before .choice-end .result) refl (stop-is ch s node)
       (c .before .before .before .before .without .ensures) (c .before .before .without2 .ensures) (c .before .release .ensures) (c .later .ensures)
 
   -- one more is left
@@ -300,7 +300,7 @@ module _ (t : ℕ) where
         omega (arith, c .without2 .ensures, node .low),
         start h .pre .1 .0 .linked,
         stored-timed (a .table .now) (start h .pre .1 .0) (a .left) (a .cands) (a .latest) (h .loop .work) (h .loop .inv .beside .timed) s (loop-node h s node) i (member (lowest-of ch))
-            (workAt (a .table .now) i % devices) (ch .before .choice-end .result) refl (stop-is ch s node),
+            (packedAt (a .table .now) i % devices) (ch .before .choice-end .result) refl (stop-is ch s node),
       )
 
   later-requires : lts.Need-later-requires (calls t) (at t) descend.Post Inv-loop μ-loop
@@ -368,10 +368,10 @@ module _ (t : ℕ) where
       let node₀ = start h .pre .1 .4 .1 in
       going-back (h .loop .inv) (lowest-of ch .before .loop-test .taken) (lowest-of ch .lowest .ensures) (c .before .before .before .before .before .before .before .before .before .before .before .before .after-lowest .ensures)
       (found c .searched (freeze p s₀ i) (below-at l s₀ node₀) .tally)
-      (beside-trans (a .table .now) (a .left) (a .cands) (a .work .now) (h .loop .work) (set (c .if4 .work) (64 + workAt (a .table .now) i % devices) (getD (h .loop .work) (64 + workAt (a .table .now) i % devices) 0))
+      (beside-trans (a .table .now) (a .left) (a .cands) (a .work .now) (h .loop .work) (set (c .if4 .work) (64 + packedAt (a .table .now) i % devices) (getD (h .loop .work) (64 + packedAt (a .table .now) i % devices) 0))
       (h .loop .inv .beside)
       (undone (a .table .now) (start h .pre .1 .0) (a .left) (a .cands) (a .latest) (h .loop .work) (h .loop .inv .beside .timed) s₀ (loop-node h s₀ node₀) i (member (lowest-of ch))
-      (workAt (a .table .now) i % devices) (ch .before .choice-end .result) refl (stop-is ch s₀ node₀)
+      (packedAt (a .table .now) i % devices) (ch .before .choice-end .result) refl (stop-is ch s₀ node₀)
       (l .before .before .before .before .without .ensures) (l .before .before .without2 .ensures) (l .before .release .ensures) (found c .beside)))
       (found c .same)
       (λ s node. is-choice p s (key p s) i (ch .before .choice-end .result) (end-is (ch .before) s node) (ch .if3 .taken))

@@ -4,7 +4,7 @@ use Prim.Native.Nat.{ℕ, _+_, _/_}
 use native.Mathlib.Omega.{arith}
 use borrow.Author.Needs.{needs}
 use Rattle.members.proofs.Members.{lowest-below}
-use Rattle.network.specs.Network.{workAt}
+use Rattle.network.specs.Network.{packedAt}
 use Rattle.search.proofs.Settled.{settling-start, settling-last, last-small, last-apart, settled-ended, settled-last, settled-leaf, settled-dead}
 use Rattle.search.proofs.finish.Statement.{statement}
 use Rattle.search.proofs.finish.Tie as tie
@@ -33,7 +33,7 @@ add-end : tie.Need-add-end
 add-end c =
     let low = c .before .before .before in
     let start = low .before .before .before in
-    let w : ℕ = workAt (start .args .table .now) (low .lowest .result) / 16 in
+    let w : ℕ = packedAt (start .args .table .now) (low .lowest .result) / 16 in
     omega (
       arith,
       last-small (start .pre .0) (start .pre .1) (start .pre .3) (start .pre .4) (start .pre .5) (low .before .if1 .taken) (low .lowest .ensures)
@@ -59,7 +59,7 @@ leave-requires : tie.Need-leave-requires
 leave-requires c κs =
     let low = c .before .before .before .before .before .before .before in
     let start = low .before .before .before in
-    let w : ℕ = workAt (start .args .table .now) (low .lowest .result) / 16 in
+    let w : ℕ = packedAt (start .args .table .now) (low .lowest .result) / 16 in
     let settled =
     settling-last (start .pre .0) (start .pre .1) (start .pre .3) (start .pre .4) (start .pre .5) (low .before .if1 .taken) (low .lowest .ensures)
     (ap (_+ w) (c .before .before .before .before .before .earliest-start .ensures)) in
@@ -77,7 +77,7 @@ returns : tie.Need-returns
 returns c =
     let low = c .before .before .before .before .before .before .before .before .before .before in
     let start = low .before .before .before in
-    let w : ℕ = workAt (start .args .table .now) (low .lowest .result) / 16 in
+    let w : ℕ = packedAt (start .args .table .now) (low .lowest .result) / 16 in
     let settled =
     settling-last (start .pre .0) (start .pre .1) (start .pre .3) (start .pre .4) (start .pre .5) (low .before .if1 .taken) (low .lowest .ensures)
     (ap (_+ w) (c .before .before .before .before .before .before .before .before .earliest-start .ensures)) in

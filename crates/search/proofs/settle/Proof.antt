@@ -5,7 +5,7 @@ use native.Mathlib.Omega.{arith}
 use lib.Pow.{pow-pos}
 use borrow.Author.Needs.{needs}
 use Rattle.members.proofs.Members.{after-less}
-use Rattle.network.specs.Network.{workAt}
+use Rattle.network.specs.Network.{packedAt}
 use Rattle.search.proofs.Settled.{Settling, settling-start, settling-on, at-here, below-here, left-here, some-here, small-here, timed-here}
 use Rattle.search.proofs.Settled.{settled-ended, settled-last, settled-leaf, settled-dead}
 use Rattle.search.proofs.settle.Statement.{statement}
@@ -51,7 +51,7 @@ add-end c =
     let low = c .before .before .before in
     let h = low .before .before in
     let start = h .before .before in
-    let w : ℕ = workAt (start .args .table .now) (low .lowest .result) / 16 in
+    let w : ℕ = packedAt (start .args .table .now) (low .lowest .result) / 16 in
     omega (
       arith,
       small-here (start .pre .0) (start .pre .3) (start .pre .4) (h .loop .inv) (low .before .loop-test .taken) (low .lowest .ensures)
@@ -94,7 +94,7 @@ release-requires c κs =
     let start = h .before .before in
     let more = low .before .loop-test .taken in
     let inside = at-here (start .pre .0) (start .pre .3) (start .pre .4) (h .loop .inv) .low in
-    let w : ℕ = workAt (start .args .table .now) (low .lowest .result) / 16 in (
+    let w : ℕ = packedAt (start .args .table .now) (low .lowest .result) / 16 in (
       below-here (start .pre .0) (start .pre .3) (start .pre .4) (h .loop .inv) more (low .lowest .ensures),
       omega (arith, c .after-lowest .ensures, after-less (h .loop .«open») inside more, inside),
       start .pre .0 .linked,
@@ -119,7 +119,7 @@ loop-again c =
     let low = c .before .before .before .before .before .before .before .before in
     let h = low .before .before in
     let start = h .before .before in
-    let w : ℕ = workAt (start .args .table .now) (low .lowest .result) / 16 in
+    let w : ℕ = packedAt (start .args .table .now) (low .lowest .result) / 16 in
     settling-on (start .pre .0) (start .pre .3) (start .pre .4) (h .loop .inv) (low .before .loop-test .taken) (low .lowest .ensures)
     (ap (_+ w) (c .before .before .before .before .before .before .earliest-start .ensures))
     (c .before .before .before .without .ensures)
