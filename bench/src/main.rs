@@ -10,15 +10,15 @@ use reference::is_session;
 use reference::orders;
 use reference::project::Project;
 
-#[cfg(feature = "linked")]
+#[cfg(not(feature = "stand-in"))]
 const PLANNER: (planner::Linked, &str) = (planner::Linked, "planner");
 
-#[cfg(not(feature = "linked"))]
+#[cfg(feature = "stand-in")]
 const PLANNER: (reference::Reference, &str) = (reference::Reference, "stand-in");
 
 /// The stand-in is slow: it is not timed on more sessions than this.
 fn is_timed(sessions: u64) -> bool {
-    cfg!(feature = "linked") || sessions <= 50_000
+    !cfg!(feature = "stand-in") || sessions <= 50_000
 }
 
 /// The enumerator tries every order on every resource: no more combinations than this.
@@ -195,8 +195,8 @@ fn main() {
     println!("User time of one call, the best of {RUNS} runs; every buffer is cleared before a run.");
     println!("Cap {CAP}. Each: the time divided by the number of sessions.");
     println!("Ratios: planner to peer, and enumerator to planner.");
-    if !cfg!(feature = "linked") {
-        println!("The planner's library is not linked: the reference stands in for it.");
+    if cfg!(feature = "stand-in") {
+        println!("The reference stands in for the planner.");
     }
     let plans = plans::main_plans();
     best_table("BEST", &plans);

@@ -1,4 +1,4 @@
-//! With the feature `linked`: links target/staticlib/libvialbluff.a, which `rt staticlib vialbluff` writes.
+//! Links target/staticlib/libvialbluff.a, which `rt staticlib vialbluff` writes, unless the feature `stand-in` is asked for.
 
 use std::path::Path;
 
@@ -6,7 +6,7 @@ const LIBRARY: &str = "vialbluff";
 
 fn main() {
     println!("cargo:rerun-if-changed=build.rs");
-    if std::env::var_os("CARGO_FEATURE_LINKED").is_none() {
+    if std::env::var_os("CARGO_FEATURE_STAND_IN").is_some() {
         return;
     }
     let folder = Path::new(env!("CARGO_MANIFEST_DIR")).join("../../target/staticlib");

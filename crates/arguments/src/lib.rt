@@ -4,8 +4,14 @@ ghost use mathlib.Core.Bool.{true};
 ghost use mathlib.Core.Path.{_≡_};
 ghost use lib.ListN.{length, getD};
 ghost use Rattle.format.specs.Lines.{isDigit};
+ghost use Rattle.timetable.specs.Mark.{mark, places};
 ghost use Rattle.arguments.specs.Words.{isSized, numberIn, comma, startAt, startBy, startIn, placedAt, placedIn, valueIn};
 use timetable::Timetable;
+
+// How many activity numbers there are, and the mark, in the type of a word's number.
+const ACTS: u32 = plan::MOST_ACTS as u32;
+
+const MARK: u32 = Timetable::MARK as u32;
 
 pub enum Number {
     Value(u32),
@@ -110,10 +116,10 @@ fn comma_of(word: &[u8]) -> usize
 fn start_at(activity: u32, start: u32) -> Start
     ensures { λ r. ⌜ r ≡ startAt activity start ⌝ }
 {
-    if 24 <= activity {
+    if ACTS <= activity {
         return Start::NoStart;
     }
-    if 65535 <= start {
+    if MARK <= start {
         return Start::NoStart;
     }
     Start::At { activity, start }
@@ -146,7 +152,7 @@ pub fn start_of(word: &[u8]) -> Start
 }
 
 fn place_at(timetable: Timetable, activity: u32, start: u32) -> Placed
-    requires { ⌜ (activity < 24) × (start < 65535) ⌝ }
+    requires { ⌜ (activity < places) × (start < mark) ⌝ }
     ensures { λ r. ⌜ r ≡ placedAt timetable activity start ⌝ }
 {
     let i = activity as usize;

@@ -1,9 +1,10 @@
 -- From the judgement of the file to the calls' answers.
-use Prim.Native.Nat.{ℕ, _*_, _^_, _≤_, _<_}
+use Prim.Native.Nat.{ℕ, _+_, _*_, _^_, _≤_, _<_}
 use native.Mathlib.Nat.{mul-le-mul-left}
 use native.Mathlib.Omega.{arith}
 use mathlib.Core.Path.{_≡_, sym, subst}
 use mathlib.Core.List.{List}
+use Rattle.plan.specs.Limits.{mostActs}
 use Rattle.plan.specs.Plan.{planOf}
 use Rattle.read.specs.Judge.{Verdict, judge}
 use Rattle.read.specs.Answer.{Accepts}
@@ -38,6 +39,6 @@ module _ (s : List ℕ) (v : Verdict) (is : judge s ≡ v) (cap : ℕ) where
   unfolding BestOf
   best-of r = subst (λ (x : Verdict). BestBy x cap r) (sym is)
 
--- The cells of 32 bits of rows, of at most 25 cells each, are a number of 64 bits.
-pub cells-fit : (rows width : ℕ) → rows < 2 ^ 32 → width ≤ 25 → rows * width < 2 ^ 64
+-- The cells of 32 bits of rows, each a variant and at most `mostActs` starts, are a number of 64 bits.
+pub cells-fit : (rows width : ℕ) → rows < 2 ^ 32 → width ≤ mostActs + 1 → rows * width < 2 ^ 64
 cells-fit rows width few narrow = omega (arith, mul-le-mul-left rows narrow)

@@ -8,6 +8,7 @@ use mathlib.Core.List.{List, _∷_, _++_, map}
 use lib.Dec.{leb}
 use lib.ListN.{length, drop, length-map}
 use borrow.Author.Tests.{le-leb, lt-leb, leb-true}
+use Rattle.plan.specs.Limits.{latestPossible}
 use Rattle.plan.specs.Plan.{Plan}
 use Rattle.term.specs.Term.{Term}
 use Rattle.term.specs.Variants.{variantCount}
@@ -90,7 +91,7 @@ module _ (p : Plan) (t : Term) (valid : Valid p t) (q : ℕ → Problem) (presen
         (area-is acts cap cellsOf refl (λ r rs. refl) k all fresh (omega (arith, entries-count)) (omega arith)
         ∙ ap₂ (λ (x : List (List ℕ)) (n : ℕ). cellsOf x ++ drop n (k .area)) rows-are wide)
 
-    first : 48000 < k .tally .«best_end» → pairCount p t ≤ cap → First (after .tally) all
+    first : latestPossible < k .tally .«best_end» → pairCount p t ≤ cap → First (after .tally) all
     first above few =
         best acts cap k all
         (omega (arith, entries-count, pairs-some p t valid))
@@ -105,7 +106,7 @@ module _ (p : Plan) (t : Term) (valid : Valid p t) (q : ℕ → Problem) (presen
         ))
 
     -- The schedule that is kept is what BEST asks for.
-    pub kept-finds : 48000 < k .tally .«best_end» → pairCount p t ≤ cap → (b : Best)
+    pub kept-finds : latestPossible < k .tally .«best_end» → pairCount p t ≤ cap → (b : Best)
         → b .answer ≡ Found (after .tally .«best_variant») (after .tally .«best_end») (pairCount p t) → b .timetable .starts ≡ after .tally .best .starts
         → Finds p t b
     kept-finds above few b answer timetable =

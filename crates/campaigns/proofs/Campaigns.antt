@@ -10,7 +10,8 @@ use Rattle.format.specs.Parse.{parse, planLines, aLine, theLines, theEnd}
 use Rattle.format.specs.Lines.{found, digits, isValue, decimal}
 use Rattle.term.specs.Term.{termOf, forest, place, size, firsts, others}
 use Rattle.term.specs.Variants.{activities, member, some-of}
-use Rattle.term.proofs.Model.{count, clash, share}
+use Rattle.term.specs.Clash.{clash, share}
+use Rattle.term.proofs.Model.{count}
 use Rattle.read.specs.Judge.{judge}
 use Rattle.read.proofs.Model.{readBy, read-by}
 use Rattle.format.specs.Lines
@@ -27,18 +28,20 @@ use Rattle.sessions.specs.Timetable.{isSession, isMarked}
 use Rattle.write.specs.Answer.{writeOf}
 use Rattle.write.specs.declared.WriteAnswer.the-variants.{Written}
 use Rattle.inspect.specs.Answer.{checkOf}
-use Rattle.campaigns.specs.Table.{Row, reads, writes, checks, counts, lists, spans, finds, stops, Holds, table, lent}
+use Rattle.campaigns.specs.Table.{Row, reads, has-variants, writes, checks, counts, lists, spans, finds, stops, Holds, table, lent}
 use Rattle.schedule.specs.Sessions.{gather}
 use Rattle.sets.specs.Sets
 use Rattle.sets.specs.Sets.{has, meet}
 use Rattle.scan.proofs.Model.{leastBelow, ready, earliest, finish, isOpen, keyOf, key, isChoice, freeze, branches, leaves, root, scanned, startOf, starts}
 use Rattle.seam.proofs.Posed.{setOf, problemOf, presentOf}
 use Rattle.campaigns.proofs.Searched.{total, countModel, count-is, listModel, list-is, spansModel, hasModel, spans-is}
+use Rattle.campaigns.proofs.Variants.{variantsBy, variants-are}
 use Rattle.campaigns.proofs.Shortest.{shown, refused, sameShown, shown-same, AnswersAs, bestModel, best-is, shortestSpan, shortestVariants}
-use Rattle.campaigns.proofs.Tests.{sameList, list-same, sameCount, count-same, sameListing, listing-same, sameRead, read-same, sameOutcome, outcome-same, sameCheck, check-same}
+use Rattle.campaigns.proofs.Tests.{sameNumber, number-same, sameList, list-same, sameCount, count-same, sameListing, listing-same, sameRead, read-same, sameOutcome, outcome-same, sameCheck, check-same}
 
 abbrev test : Row → Bool
 test (reads s answer) = sameRead (readBy s) answer
+test (has-variants s n) = sameNumber (variantsBy s) n
 test (writes s v bytes) =
     sameOutcome (writeOf s v lent) (record { answer = Written (length bytes); area = bytes ++ drop (length bytes) lent })
 test (checks s v starts answer) = sameCheck (checkOf s v starts) answer
@@ -50,6 +53,7 @@ test (stops s cap r) = sameShown (bestModel s cap) (refused r)
 
 test-holds : (row : Row) → test row ≡ true → Holds row
 test-holds (reads s answer) e = read-by s ∙ read-same (readBy s) answer e
+test-holds (has-variants s n) e = variants-are s n (number-same (variantsBy s) n e)
 test-holds (writes s v bytes) e = outcome-same (writeOf s v lent) _ e
 test-holds (checks s v starts answer) e = check-same (checkOf s v starts) answer e
 test-holds (counts s cap answer) e = count-is s cap ∙ count-same (countModel s cap) answer e
@@ -66,7 +70,7 @@ test-holds (stops s cap r) e =
     λ best given. subst (λ x. AnswersAs x best) (shown-same (bestModel s cap) _ e) (best-is s cap best given)
 
 all-pass : every test table ≡ true
-unfolding table readBy parse planLines aLine theLines theEnd found digits isValue decimal termOf forest place size firsts others activities member some-of count clash share writeOf checkOf judge twice repeats variants paired variantCount written variantPlan dissolved joined text actLines nodeLines filled Lines.written nodes isSession isMarked feasible placed inOrder withinCapacity load latestEnd everyBelow sumBelow maxBelow projectOf precedes countModel listModel spansModel hasModel bestModel shortestSpan shortestVariants total problemOf presentOf setOf gather scanned leaves branches root freeze isChoice key keyOf leastBelow isOpen finish earliest ready Sets.size has meet starts startOf
+unfolding table readBy variantsBy parse planLines aLine theLines theEnd found digits isValue decimal termOf forest place size firsts others activities member some-of count clash share writeOf checkOf judge twice repeats variants paired variantCount written variantPlan dissolved joined text actLines nodeLines filled Lines.written nodes isSession isMarked feasible placed inOrder withinCapacity load latestEnd everyBelow sumBelow maxBelow projectOf precedes countModel listModel spansModel hasModel bestModel shortestSpan shortestVariants total problemOf presentOf setOf gather scanned leaves branches root freeze isChoice key keyOf leastBelow isOpen finish earliest ready Sets.size has meet starts startOf
 all-pass = refl
 
 every-of : (xs : List Row) → every test xs ≡ true → (row : Row) → List·Memᴰ row xs → test row ≡ true

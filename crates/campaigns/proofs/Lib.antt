@@ -1,5 +1,6 @@
 -- The worked campaigns, proved.
 pub mod Tests
+pub mod Variants
 pub mod Searched
 pub mod Shortest
 pub mod Campaigns

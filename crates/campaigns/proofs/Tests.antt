@@ -3,6 +3,7 @@ use Prim.Native.Nat.{ℕ}
 use mathlib.Core.Bool.{Bool, true, false, false≢true, Bool·beq, _&&_}
 use mathlib.Core.List.{List, [], _∷_}
 use mathlib.Core.Logic.{_⊎_, inl, inr}
+use mathlib.Core.Option.{Option, none, some}
 use mathlib.Core.Path.{_≡_, refl, sym, ap, ap₂, _∙_}
 use borrow.Author.Tests.{eqb-true}
 use lib.Dec.{eqb}
@@ -86,6 +87,15 @@ read-same (Read n m v) (Read n′ m′ v′) e =
 read-same (Read n m v) (Refused r) e = absurd (false≢true e)
 read-same (Refused r) (Read n m v) e = absurd (false≢true e)
 read-same (Refused r) (Refused r′) e = let h = refusal-same r r′ e in cc
+
+-- A number, if there is one.
+abbrev pub sameNumber : Option ℕ → ℕ → Bool
+sameNumber none n = false
+sameNumber (some m) n = eqb m n
+
+pub number-same : (o : Option ℕ) (n : ℕ) → sameNumber o n ≡ true → o ≡ some n
+number-same none n e = absurd (false≢true e)
+number-same (some m) n e = ap some (eqb-true m n e)
 
 abbrev pub sameList : List ℕ → List ℕ → Bool
 sameList [] [] = true

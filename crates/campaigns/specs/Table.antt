@@ -4,13 +4,15 @@ use Prim.Native.Nat.{ℕ, zero, suc, _-_, _<_}
 use Prim.Native.String.{String}
 use mathlib.Core.Bool.{true, false}
 use mathlib.Core.List.{List, [], _∷_, _++_, map, List·Memᴰ, Perm}
+use mathlib.Core.Option.{some}
 use mathlib.Core.Path.{_≡_}
 use lib.Dec.{eqb}
 use lib.ListN.{length, drop, replicate}
 use Rattle.plan.specs.declared.Refusal.{Refusal}
 use Rattle.plan.specs.declared.Refusal.the-variants.{Range, Form, Twice, TooManyVariants, NoSuchVariant, OverCap, AreaTooShort}
 use Rattle.plan.specs.Plan.{Plan}
-use Rattle.term.specs.Term.{Term}
+use Rattle.format.specs.Parse.{parse, holds}
+use Rattle.term.specs.Term.{Term, termOf}
 use Rattle.term.specs.Variants.{variantCount}
 use Rattle.schedule.specs.Schedule.{makespan}
 use Rattle.schedule.specs.Sessions.{sessions, startsOf}
@@ -61,6 +63,8 @@ lent = replicate 150 7
 
 pub data Row : Type 0 where
   reads : List ℕ → ReadAnswer → Row
+  -- V, also where it is over the limit
+  has-variants : List ℕ → ℕ → Row
   writes : List ℕ → ℕ → List ℕ → Row
   checks : List ℕ → ℕ → List ℕ → CheckAnswer → Row
   counts : List ℕ → ℕ → CountAnswer → Row
@@ -69,6 +73,14 @@ pub data Row : Type 0 where
   -- BEST: the variants that have a shortest session (which of them is open), its makespan and COUNT's number
   finds : List ℕ → ℕ → List ℕ → ℕ → ℕ → Row
   stops : List ℕ → ℕ → Refusal → Row
+
+-- The file's lines say a plan whose nodes are one whole term with n variants, be they too many or not.
+pub record HasVariants (s : List ℕ) (n : ℕ) : Type 0 where
+  pub plan : Plan
+  pub lines : parse s ≡ holds plan
+  pub term : Term
+  pub whole : termOf (plan .nodes) ≡ some term
+  pub count : variantCount term ≡ n
 
 -- The makespans of the active sessions of variant v, in some order.
 pub record Spans (s : List ℕ) (v : ℕ) (makespans : List ℕ) : Type 0 where
@@ -84,6 +96,7 @@ pub record Spans (s : List ℕ) (v : ℕ) (makespans : List ℕ) : Type 0 where
 -- What a row says of the definitions.
 abbrev pub Holds : Row → Type 0
 Holds (reads s answer) = readOf s ≡ answer
+Holds (has-variants s n) = HasVariants s n
 Holds (writes s v bytes) =
     writeOf s v lent ≡ record { answer = Written (length bytes); area = bytes ++ drop (length bytes) lent }
 Holds (checks s v starts answer) = checkOf s v starts ≡ answer
@@ -114,6 +127,22 @@ freeDeviceWaits = file "plan=1/res=2/acts=4/act=0,10/act=1,1/act=0,1/act=1,20/no
 abbrev pub example2 : List ℕ
 example2 = file "plan=1/res=4/acts=8/act=0,1/act=1,2/act=2,2/act=1,1/act=0,1/act=0,2/act=3,1/act=1,2/nodes=13/node=p,4/node=s,2/node=p,2/node=a,0/node=a,1/node=a,2/node=s,2/node=a,3/node=a,4/node=a,5/node=s,2/node=a,6/node=a,7"
 
+-- The eleven x of activities 2 and 3, 4 and 5 and so on.
+abbrev elevenChoices : List ℕ
+elevenChoices =
+    file "node=x,2/node=a,2/node=a,3/node=x,2/node=a,4/node=a,5/node=x,2/node=a,6/node=a,7/node=x,2/node=a,8/node=a,9"
+    ++ (file "node=x,2/node=a,10/node=a,11/node=x,2/node=a,12/node=a,13/node=x,2/node=a,14/node=a,15/node=x,2/node=a,16/node=a,17"
+    ++ file "node=x,2/node=a,18/node=a,19/node=x,2/node=a,20/node=a,21/node=x,2/node=a,22/node=a,23")
+
+abbrev twentyFourActivities : List ℕ
+twentyFourActivities = file "plan=1/res=1/acts=24" ++ times 24 (file "act=0,1")
+
+abbrev pub twelveChoices : List ℕ
+twelveChoices = twentyFourActivities ++ (file "nodes=37/node=p,12/node=x,2/node=a,0/node=a,1" ++ elevenChoices)
+
+abbrev pub oneChoiceMore : List ℕ
+oneChoiceMore = twentyFourActivities ++ (file "nodes=38/node=p,12/node=x,3/node=a,0/node=a,1/node=a,0" ++ elevenChoices)
+
 unfoldable pub table : List Row
 table =
     -- The dot test.
@@ -126,9 +155,11 @@ table =
     -- Activity 0 twice, under an x and under a p.
     ∷ reads twiceUnderX (Read 1 3 2)
     ∷ reads twiceUnderP (Refused Twice)
-    -- p over twelve x of two distinct activities, and with one of an x's two activities named there a second time.
-    ∷ reads (file "plan=1/res=1/acts=24" ++ (times 24 (file "act=0,1") ++ (file "nodes=37/node=p,12/node=x,2/node=a,0/node=a,1" ++ (file "node=x,2/node=a,2/node=a,3/node=x,2/node=a,4/node=a,5/node=x,2/node=a,6/node=a,7/node=x,2/node=a,8/node=a,9/node=x,2/node=a,10/node=a,11/node=x,2/node=a,12/node=a,13" ++ file "node=x,2/node=a,14/node=a,15/node=x,2/node=a,16/node=a,17/node=x,2/node=a,18/node=a,19/node=x,2/node=a,20/node=a,21/node=x,2/node=a,22/node=a,23")))) (Read 24 37 4096)
-    ∷ reads (file "plan=1/res=1/acts=24" ++ (times 24 (file "act=0,1") ++ (file "nodes=38/node=p,12/node=x,3/node=a,0/node=a,1/node=a,0" ++ (file "node=x,2/node=a,2/node=a,3/node=x,2/node=a,4/node=a,5/node=x,2/node=a,6/node=a,7/node=x,2/node=a,8/node=a,9/node=x,2/node=a,10/node=a,11/node=x,2/node=a,12/node=a,13" ++ file "node=x,2/node=a,14/node=a,15/node=x,2/node=a,16/node=a,17/node=x,2/node=a,18/node=a,19/node=x,2/node=a,20/node=a,21/node=x,2/node=a,22/node=a,23")))) (Refused TooManyVariants)
+    -- p over twelve x of two distinct activities, and with one of an x's two activities named there a second time: 6144.
+    ∷ reads twelveChoices (Read 24 37 4096)
+    ∷ has-variants twelveChoices 4096
+    ∷ reads oneChoiceMore (Refused TooManyVariants)
+    ∷ has-variants oneChoiceMore 6144
     -- The dot test's variants written out; there is no third.
     ∷ writes dotTest 0 (file "plan=1/res=3/acts=5/act=0,4/act=1,2/act=1,3/act=2,5/act=1,6/nodes=5/node=s,2/node=a,0/node=p,2/node=a,3/node=a,4")
     ∷ checks dotTest 2 (timetable []) (CheckAnswers.Refused NoSuchVariant)
@@ -155,6 +186,8 @@ table =
     ∷ counts dotTest 0 (CountAnswers.Refused OverCap)
     ∷ lists dotTest 3 18 (Listed 3)
     ∷ lists dotTest 3 17 (ListAnswers.Refused (AreaTooShort 18))
+    ∷ lists dotTest 2 18 (ListAnswers.Refused OverCap)
+    ∷ lists dotTest 0 18 (ListAnswers.Refused OverCap)
     -- Activity 0 under both picks of an x counts twice.
     ∷ counts twiceUnderX 9 (Counted 2)
     -- Two contested devices on one tick; a free device that has to wait; document 000, Example 2, second term.

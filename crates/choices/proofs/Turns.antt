@@ -141,7 +141,11 @@ module _ (t : List ℕ) (left cands i : ℕ) (w : List ℕ) where
 
       latest-fits : (set : ℕ) → latestOf w′ set < 2 ^ 16
       latest-fits set =
-          omega (arith, max-least most (λ k. cond (has set k) (endAt w′ k) 0) 65535 λ k l. omega (arith, cond-le (has set k) (endAt w′ k), so-far .timed .times k))
+          omega (
+            arith,
+            max-least most (λ k. cond (has set k) (endAt w′ k) 0) (2 ^ 16 - 1)
+                λ k l. omega (arith, cond-le (has set k) (endAt w′ k), so-far .timed .times k),
+          )
 
       stored : (x : ℕ) → x < 2 ^ 16 → (k : ℕ) → getD (set w′ (32 + j) x) k 0 < 2 ^ 16
       stored x h k =

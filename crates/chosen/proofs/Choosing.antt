@@ -12,6 +12,7 @@ use lib.Dec.{ltb}
 use borrow.Author.Tests.{ltb-false}
 use lib.ListN.{length, getD, take, set, length-append}
 use lib.Seq.{length-take-le}
+use Rattle.plan.specs.Limits.{mostNodes}
 use Rattle.plan.specs.Plan.{Node, nodeOf, nodesOf}
 use Rattle.plan.specs.Plan
 use Rattle.term.specs.Term.{Term, Forest, act, seq, pll, xor, nil, cons, size, nodes, nodesOfAll, firsts, others, termOf}
@@ -112,17 +113,18 @@ module _ {letter number next many : List ℕ} {at v : ℕ} {d : Draft} {ls ks : 
   pub in-numbers : at < length number
   in-numbers = omega (arith, in-letters, now .going .even)
 
-  pub in-tables : at < 64
+  pub in-tables : at < mostNodes
   in-tables = omega (arith, now .inside, now .going .short)
 
-  more : d .at + suc (length (nodesOfAll (termsAt ns (at + 1)))) ≤ 64
+  more : d .at + suc (length (nodesOfAll (termsAt ns (at + 1)))) ≤ mostNodes
   more = omega (arith, now .going .room, ap (λ (f : Forest). length (nodesOfAll f)) node-at, onto-nodes (nodeOf l k) (termsAt ns (at + 1)))
 
-  pub draft-room : (d .at < 64) × (d .children < 64)
+  pub draft-room : (d .at < mostNodes) × (d .children < mostNodes)
   draft-room = (omega (arith, more), omega (arith, more, now .going .held .children))
 
   -- The same tables, further on, with a draft that has room there.
-  going-on : (e : Written) → Held e → e .at + length (nodesOfAll (termsAt ns (at + 1))) ≤ 64 → Going letter number next many (at + 1) e
+  going-on : (e : Written) → Held e → e .at + length (nodesOfAll (termsAt ns (at + 1))) ≤ mostNodes
+      → Going letter number next many (at + 1) e
   going-on e h r =
       record {
         even = now .going .even;
@@ -268,7 +270,7 @@ module _ {letter number next many : List ℕ} {k at v all : ℕ} {d : Written} (
   pub each-in-letters : at < length letter
   each-in-letters = omega (arith, each-inside, length-nodes letter number (now .going .even))
 
-  pub each-in-tables : at < 64
+  pub each-in-tables : at < mostNodes
   each-in-tables = omega (arith, each-inside, now .going .short)
 
   pub each-later : at < getD next at 0
@@ -370,7 +372,8 @@ unfolding terms nodes
 terms-nodes [] = refl
 terms-nodes (n ∷ ns) = onto-nodes n (terms ns) ∙ ap suc (terms-nodes ns)
 
-module _ (n : ℕ) (letter number : List ℕ) {next many : List ℕ} {v : ℕ} (fits : n ≤ 64) (letters : length letter ≡ 64) (numbers : length number ≡ 64)
+module _ (n : ℕ) (letter number : List ℕ) {next many : List ℕ} {v : ℕ} (fits : n ≤ mostNodes)
+    (letters : length letter ≡ mostNodes) (numbers : length number ≡ mostNodes)
     (now : Choosable (nodesIn n letter number) next many v) where
   abbrev given : List Node
   given = nodesIn n letter number
@@ -378,7 +381,7 @@ module _ (n : ℕ) (letter number : List ℕ) {next many : List ℕ} {v : ℕ} (
   known : (terms given ≡ cons (now .term) nil) × Enough given
   known = whole given (now .term) (now .reads)
 
-  short : length given ≤ 64
+  short : length given ≤ mostNodes
   short = omega (arith, length-in n letter number fits letters numbers)
 
   term-below : v < count (now .term)
@@ -387,7 +390,7 @@ module _ (n : ℕ) (letter number : List ℕ) {next many : List ℕ} {v : ℕ} (
   whole-below : v < count (termAt given 0)
   whole-below = omega (arith, term-below, ap (λ (f : Forest). count (first f)) (known .0))
 
-  whole-short : length (nodes (termAt given 0)) ≤ 64
+  whole-short : length (nodes (termAt given 0)) ≤ mostNodes
   unfolding nodes
   whole-short =
       omega (

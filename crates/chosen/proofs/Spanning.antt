@@ -8,7 +8,7 @@ use native.Mathlib.Numerals.{add-one}
 use native.Mathlib.Omega.{arith}
 use lib.ListN.{length, getD, take, set}
 use lib.Seq.{length-take-le, getD-set-same, getD-set-other, getD-take}
-use Rattle.plan.specs.Limits.{mostVariants}
+use Rattle.plan.specs.Limits.{mostVariants, mostNodes}
 use Rattle.plan.specs.Plan.{Node, nodeOf}
 use Rattle.plan.specs.Plan
 use Rattle.term.specs.Term.{Term, Forest, act, xor, cons, firsts, others}
@@ -104,7 +104,8 @@ module _ (n : ℕ) (letter number : List ℕ) (i : ℕ) (inside : i < length (no
       terms-at (take n letter) (take n number) i inside
       ∙ rw (getD-take n letter i 0 within, getD-take n number i 0 within, add-one i)
 
-  pub begun : {next many : List ℕ} → length ns ≤ 64 → Accepted ns → Spanned ns next many (i + 1) → Begun ns next many (getD letter i 0) (getD number i 0) (i + 1)
+  pub begun : {next many : List ℕ} → length ns ≤ mostNodes → Accepted ns → Spanned ns next many (i + 1)
+      → Begun ns next many (getD letter i 0) (getD number i 0) (i + 1)
   begun short accepted s =
       let (is, enough) = whole ns (accepted .term) (accepted .reads) in
       let few : count (accepted .term) ≤ mostVariants = omega (arith, accepted .few, variantCount-count (accepted .term)) in
@@ -124,7 +125,8 @@ module _ (n : ℕ) (letter number : List ℕ) (i : ℕ) (inside : i < length (no
   spanned-step next many r s ln lm e =
       spanned-more ns next many i r s ln lm (omega (arith, e .later)) (e .ends ∙ sym (ap rest node-at)) (e .counts ∙ sym (ap (λ (f : Forest). count (first f)) node-at))
 
-pub length-in : (n : ℕ) (letter number : List ℕ) → n ≤ 64 → length letter ≡ 64 → length number ≡ 64 → length (nodesIn n letter number) ≡ n
+pub length-in : (n : ℕ) (letter number : List ℕ) → n ≤ mostNodes → length letter ≡ mostNodes → length number ≡ mostNodes
+    → length (nodesIn n letter number) ≡ n
 length-in n letter number h a b =
     length-nodes (take n letter) (take n number) (length-take-le n letter (omega arith) ∙ sym (length-take-le n number (omega arith)))
     ∙ length-take-le n letter (omega arith)

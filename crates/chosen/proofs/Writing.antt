@@ -8,6 +8,7 @@ use native.Mathlib.Omega.{arith}
 use lib.Dec.{eqb}
 use lib.ListN.{length, getD, take, set, length-append, length-set}
 use lib.Seq.{length-take-le, take-set-lt, set-at}
+use Rattle.plan.specs.Limits.{mostNodes}
 use Rattle.plan.specs.Plan.{Node, nodeOf, nodesOf}
 use Rattle.term.specs.Term.{Term, Forest, act, seq, pll, xor, nil, cons, size, nodes, nodesOfAll}
 use Rattle.variant.specs.Written.{joined}
@@ -116,8 +117,8 @@ closing r d l k = record { at = r .at; children = d .children + 1; letter = set 
 pub held-opening : {d : Written} → Held d → Held (opening d)
 held-opening h = record { letters = h .letters; numbers = h .numbers; children = omega arith }
 
-pub grown-group : {d r : Written} {f : Forest} (l k : ℕ) (t : Term) → Held d → d .at < 64 → Grown (opening d) r f → nodes t ≡ nodeOf l k ∷ nodesOfAll f
-    → Grown d (closing r d l k) (cons t nil)
+pub grown-group : {d r : Written} {f : Forest} (l k : ℕ) (t : Term) → Held d → d .at < mostNodes → Grown (opening d) r f
+    → nodes t ≡ nodeOf l k ∷ nodesOfAll f → Grown d (closing r d l k) (cons t nil)
 unfolding nodes size
 grown-group {d} {r} {f} l k t h b g e =
     record {
@@ -153,5 +154,5 @@ grown-group {d} {r} {f} l k t h b g e =
         length-nodes (take (d .at) (d .letter)) (take (d .at) (d .number)) (long (d .letter) (h .letters) ∙ sym (long (d .number) (h .numbers)))
         ∙ long (d .letter) (h .letters)
       where
-        long : (xs : List ℕ) → length xs ≡ 64 → length (take (d .at) xs) ≡ d .at
+        long : (xs : List ℕ) → length xs ≡ mostNodes → length (take (d .at) xs) ≡ d .at
         long xs e = length-take-le (d .at) xs (omega arith)

@@ -5,7 +5,7 @@ use mathlib.Core.List.{List}
 use mathlib.Core.Option.{some}
 use mathlib.Core.Path.{_≡_}
 use lib.ListN.{take}
-use Rattle.plan.specs.Limits.{mostVariants}
+use Rattle.plan.specs.Limits.{mostVariants, mostNodes}
 use Rattle.plan.specs.Plan.{Node, nodesOf}
 use Rattle.term.specs.Term.{Term, nodes, termOf}
 use Rattle.term.specs.Variants.{variantCount}
@@ -35,5 +35,5 @@ pub record Choosable (ns : List Node) (next many : List ℕ) (v : ℕ) : Type 0 
 
 -- The nodes of the variant written out.
 pub record Chose (t : Term) (v : ℕ) (r : Chosen) : Type 0 where
-  pub fits : r .nodes ≤ 64
+  pub fits : r .nodes ≤ mostNodes
   pub writes : nodesIn (r .nodes) (r .letter) (r .number) ≡ nodes (dissolved (variantAt t v))

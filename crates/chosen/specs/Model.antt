@@ -5,7 +5,7 @@ use mathlib.Core.List.{List, [], _∷_, _++_}
 use mathlib.Core.Path.{_≡_}
 use lib.Dec.{eqb}
 use lib.ListN.{length, getD, take, drop}
-use Rattle.plan.specs.Limits.{mostVariants}
+use Rattle.plan.specs.Limits.{mostVariants, mostNodes}
 use Rattle.plan.specs.Plan.{Node, nodeOf, nodesOf}
 use Rattle.plan.specs.Plan
 use Rattle.term.specs.Term.{Term, Forest, act, seq, pll, xor, nil, cons, size, nodesOfAll, firsts, others}
@@ -64,7 +64,7 @@ combine false a b = a * b
 
 -- What the walk along k children needs, and what it finds.
 pub record Walk (ns : List Node) (next many : List ℕ) (apart : Bool) (k from : ℕ) : Type 0 where
-  pub short : length ns ≤ 64
+  pub short : length ns ≤ mostNodes
   pub spanned : Spanned ns next many from
   pub enough : k ≤ size (termsAt ns from)
   pub filled : fullAll (termsAt ns from) ≡ true
@@ -77,7 +77,7 @@ pub record Walked (ns : List Node) (apart : Bool) (k from : ℕ) (r : Span) : Ty
 
 -- What the span of a node needs, whose children begin at a place, and what it is.
 pub record Begun (ns : List Node) (next many : List ℕ) (letter number from : ℕ) : Type 0 where
-  pub short : length ns ≤ 64
+  pub short : length ns ≤ mostNodes
   pub spanned : Spanned ns next many from
   pub enough : width (nodeOf letter number) ≤ size (termsAt ns from)
   pub filled : fullAll (termsAt ns from) ≡ true
@@ -90,7 +90,7 @@ pub record Ended (ns : List Node) (letter number from : ℕ) (r : Span) : Type 0
 
 -- What the search for the child that v falls into needs, and what it finds.
 pub record Apart (ns : List Node) (next many : List ℕ) (from v : ℕ) : Type 0 where
-  pub short : length ns ≤ 64
+  pub short : length ns ≤ mostNodes
   pub spanned : Spanned ns next many from
   pub below : v < total (termsAt ns from)
 
@@ -130,8 +130,8 @@ abbrev pub draftNodes : Written → List Node
 draftNodes d = nodesOf (take (d .at) (d .letter)) (take (d .at) (d .number))
 
 pub record Held (d : Written) : Type 0 where
-  pub letters : length (d .letter) ≡ 64
-  pub numbers : length (d .number) ≡ 64
+  pub letters : length (d .letter) ≡ mostNodes
+  pub numbers : length (d .number) ≡ mostNodes
   pub children : d .children ≤ d .at
 
 pub record Grown (d r : Written) (f : Forest) : Type 0 where
@@ -143,11 +143,11 @@ pub record Grown (d r : Written) (f : Forest) : Type 0 where
 -- What every step needs: right tables, and room for all that is still to be read.
 pub record Going (letter number next many : List ℕ) (at : ℕ) (d : Written) : Type 0 where
   pub even : length letter ≡ length number
-  pub short : length (nodesOf letter number) ≤ 64
+  pub short : length (nodesOf letter number) ≤ mostNodes
   pub enough : Enough (nodesOf letter number)
   pub spanned : Spanned (nodesOf letter number) next many 0
   pub held : Held d
-  pub room : d .at + length (nodesOfAll (termsAt (nodesOf letter number) at)) ≤ 64
+  pub room : d .at + length (nodesOfAll (termsAt (nodesOf letter number) at)) ≤ mostNodes
 
 pub record OfTerm (letter number next many : List ℕ) (at v : ℕ) (d : Written) : Type 0 where
   pub going : Going letter number next many at d

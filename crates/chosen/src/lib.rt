@@ -4,23 +4,24 @@ ghost use mathlib.Core.List.{List};
 ghost use mathlib.Core.Option.{some};
 ghost use mathlib.Core.Path.{_≡_};
 ghost use lib.ListN.{set};
-ghost use Rattle.plan.specs.Limits.{mostVariants};
+ghost use Rattle.plan.specs.Limits.{mostVariants, mostNodes};
 ghost use Rattle.plan.specs.Plan.{Node, nodesOf};
 ghost use Rattle.term.specs.Term.{Term, firsts, termOf};
 ghost use Rattle.chosen.specs.Chosen.{nodesIn, Accepted, Choosable, Chose};
 ghost use Rattle.chosen.specs.Model.{Spanned, combine, Walk, Walked, Begun, Ended, Apart, Found, partsOf, partsOfEach, termAt, termsAt, written, Grown, OfTerm, OfEach};
+use plan::MOST_NODES;
 
 // For each node, where the term that it begins ends, and how many variants that term has.
 pub struct Spans {
-    pub next: [usize; 64],
-    pub count: [u32; 64],
+    pub next: [usize; MOST_NODES],
+    pub count: [u32; MOST_NODES],
 }
 
 // The nodes of one variant. What stands past their count means nothing.
 pub struct Chosen {
     pub nodes: usize,
-    pub letter: [u8; 64],
-    pub number: [u8; 64],
+    pub letter: [u8; MOST_NODES],
+    pub number: [u8; MOST_NODES],
 }
 
 struct Span {
@@ -48,12 +49,12 @@ struct Draft {
 }
 
 // The spans of the nodes of an accepted plan, from the last node to the first: a node's children stand behind it.
-pub fn spans_of(letter: [u8; 64], number: [u8; 64], nodes: usize) -> Spans
-    requires { ⌜ (nodes ≤ 64) × Accepted (nodesIn nodes letter number) ⌝ }
+pub fn spans_of(letter: [u8; MOST_NODES], number: [u8; MOST_NODES], nodes: usize) -> Spans
+    requires { ⌜ (nodes ≤ mostNodes) × Accepted (nodesIn nodes letter number) ⌝ }
     ensures { λ r. ⌜ Spanned (nodesIn nodes letter number) (r .next) (r .count) 0 ⌝ }
 {
-    let mut next = [0usize; 64];
-    let mut count = [0u32; 64];
+    let mut next = [0usize; MOST_NODES];
+    let mut count = [0u32; MOST_NODES];
     let mut i = nodes;
     while 0 < i {
         i -= 1;
@@ -65,7 +66,13 @@ pub fn spans_of(letter: [u8; 64], number: [u8; 64], nodes: usize) -> Spans
 }
 
 // The span of the node of this letter and number, whose children begin at `from`.
-fn span_of(letter: u8, number: u8, from: usize, next: &[usize; 64], count: &[u32; 64]) -> Span
+fn span_of(
+    letter: u8,
+    number: u8,
+    from: usize,
+    next: &[usize; MOST_NODES],
+    count: &[u32; MOST_NODES],
+) -> Span
     requires { ⌜ ((ns : List Node) × Begun ns (now next) (now count) letter number from) ⌝ }
     ensures { λ r. ⌜ ((ns : List Node) → Begun ns (now (next .entry)) (now (count .entry)) letter number from → Ended ns letter number from r) ⌝ }
 {
@@ -80,7 +87,13 @@ fn span_of(letter: u8, number: u8, from: usize, next: &[usize; 64], count: &[u32
 }
 
 // Along k children: the place behind them, and how many variants they have, one of them chosen or all together.
-fn walk(apart: bool, k: u8, from: usize, next: &[usize; 64], count: &[u32; 64]) -> Span
+fn walk(
+    apart: bool,
+    k: u8,
+    from: usize,
+    next: &[usize; MOST_NODES],
+    count: &[u32; MOST_NODES],
+) -> Span
     requires { ⌜ ((ns : List Node) × Walk ns (now next) (now count) apart k from) ⌝ }
     ensures { λ r. ⌜ ((ns : List Node) → Walk ns (now (next .entry)) (now (count .entry)) apart k from → Walked ns apart k from r) ⌝ }
 {
@@ -107,7 +120,7 @@ fn combined(apart: bool, a: u32, b: u32) -> u32
 }
 
 // The child, of those from a place on, that v falls into.
-fn alternative(next: &[usize; 64], count: &[u32; 64], from: usize, v: u32) -> Place
+fn alternative(next: &[usize; MOST_NODES], count: &[u32; MOST_NODES], from: usize, v: u32) -> Place
     requires { ⌜ ((ns : List Node) × Apart ns (now next) (now count) from v) ⌝ }
     ensures { λ r. ⌜ ((ns : List Node) → Apart ns (now (next .entry)) (now (count .entry)) from v → Found ns from v r) ⌝ }
 {
@@ -122,7 +135,7 @@ fn alternative(next: &[usize; 64], count: &[u32; 64], from: usize, v: u32) -> Pl
 
 // Room for one node, whose children follow.
 fn opened(d: Draft) -> Draft
-    requires { ⌜ d .at < 64 ⌝ }
+    requires { ⌜ d .at < mostNodes ⌝ }
     ensures { λ r. ⌜ r ≡ record { at = d .at + 1; children = 0 } ⌝ }
 {
     Draft {
@@ -137,10 +150,10 @@ fn closed(
     outer: Draft,
     letter: u8,
     number: u8,
-    letters: &mut [u8; 64],
-    numbers: &mut [u8; 64],
+    letters: &mut [u8; MOST_NODES],
+    numbers: &mut [u8; MOST_NODES],
 ) -> Draft
-    requires { ⌜ (outer .at < 64) × (outer .children < 64) ⌝ }
+    requires { ⌜ (outer .at < mostNodes) × (outer .children < mostNodes) ⌝ }
     ensures { λ r. ⌜ r ≡ record { at = d .at; children = outer .children + 1 } ⌝ }
     ensures { λ _. ⌜ now (letters .exit) ≡ set (now (letters .entry)) (outer .at) letter ⌝ }
     ensures { λ _. ⌜ now (numbers .exit) ≡ set (now (numbers .entry)) (outer .at) number ⌝ }
@@ -172,14 +185,14 @@ fn split(v: u32, all: u32, here: u32) -> Digits
 fn term(
     letter: &[u8],
     number: &[u8],
-    next: &[usize; 64],
-    count: &[u32; 64],
+    next: &[usize; MOST_NODES],
+    count: &[u32; MOST_NODES],
     kind: u8,
     at: usize,
     v: u32,
     d: Draft,
-    letters: &mut [u8; 64],
-    numbers: &mut [u8; 64],
+    letters: &mut [u8; MOST_NODES],
+    numbers: &mut [u8; MOST_NODES],
 ) -> Draft
     requires { ⌜ OfTerm (now letter) (now number) (now next) (now count) at v (written d (now letters) (now numbers)) ⌝ }
     ensures { λ r. ⌜ Grown (written d (now (letters .entry)) (now (numbers .entry))) (written r (now (letters .exit)) (now (numbers .exit))) (partsOf kind (termAt (nodesOf (now (letter .entry)) (now (number .entry))) at) v) ⌝ }
@@ -244,16 +257,16 @@ fn term(
 fn each(
     letter: &[u8],
     number: &[u8],
-    next: &[usize; 64],
-    count: &[u32; 64],
+    next: &[usize; MOST_NODES],
+    count: &[u32; MOST_NODES],
     kind: u8,
     k: u8,
     at: usize,
     v: u32,
     all: u32,
     d: Draft,
-    letters: &mut [u8; 64],
-    numbers: &mut [u8; 64],
+    letters: &mut [u8; MOST_NODES],
+    numbers: &mut [u8; MOST_NODES],
 ) -> Draft
     requires { ⌜ OfEach (now letter) (now number) (now next) (now count) k at v all (written d (now letters) (now numbers)) ⌝ }
     ensures { λ r. ⌜ Grown (written d (now (letters .entry)) (now (numbers .entry))) (written r (now (letters .exit)) (now (numbers .exit))) (partsOfEach kind (firsts k (termsAt (nodesOf (now (letter .entry)) (now (number .entry))) at)) v) ⌝ }
@@ -291,16 +304,22 @@ fn each(
 }
 
 // The nodes of variant v of an accepted plan.
-pub fn choose(letter: [u8; 64], number: [u8; 64], nodes: usize, spans: Spans, v: u32) -> Chosen
-    requires { ⌜ (nodes ≤ 64) × Choosable (nodesIn nodes letter number) (spans .next) (spans .count) v ⌝ }
+pub fn choose(
+    letter: [u8; MOST_NODES],
+    number: [u8; MOST_NODES],
+    nodes: usize,
+    spans: Spans,
+    v: u32,
+) -> Chosen
+    requires { ⌜ (nodes ≤ mostNodes) × Choosable (nodesIn nodes letter number) (spans .next) (spans .count) v ⌝ }
     ensures { λ r. ⌜ ((t : Term) → termOf (nodesIn nodes letter number) ≡ some t → Chose t v r) ⌝ }
 {
     let next = spans.next;
     let count = spans.count;
     let start = Place { at: 0, v };
     let blank = Draft { at: 0, children: 0 };
-    let mut letters = [0; 64];
-    let mut numbers = [0; 64];
+    let mut letters = [0; MOST_NODES];
+    let mut numbers = [0; MOST_NODES];
     let d = term(
         &letter[..nodes],
         &number[..nodes],

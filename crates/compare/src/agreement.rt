@@ -1,94 +1,154 @@
-// Whether the planner's answers on a file are what the enumerator found.
+// Whether the planner's answers on a file are what the enumerator found. `own` has the enumerator's rows.
+use crate::rows::has_session;
+use crate::rows::hold;
+use crate::rows::same_rows;
+use enumerator::ABSENT;
 use enumerator::Enumerated;
 use listing::BestAnswer;
 use listing::CountAnswer;
 use listing::ListAnswer;
+use plain::ACTS;
+use plain::Judged;
 use plan::Refusal;
 use read::ReadAnswer;
 
-const CAP: u32 = 1000000;
+// The largest area that LIST is lent.
+pub const CELLS: usize = 65536;
+
+// The largest cap.
+pub const MOST: u32 = 4294967295;
+
+// What stands in an area before LIST: no variant and no start is that large, and the mark is larger.
+const BLANK: u16 = 60000;
 
 fn wide(n: u32) -> u64 {
     n as u64
 }
 
-// READ has the enumerator's number of variants.
-pub fn read_agrees(file: &[u8], e: Enumerated) -> bool {
-    match read::read(file) {
-        ReadAnswer::Read {
-            acts: _,
-            nodes: _,
-            variants,
-        } => variants == wide(e.variants),
-        ReadAnswer::Refused(_) => false,
-    }
+// Did the enumerator try all sessions, and have room for the rows of the active ones?
+pub fn is_known(e: Enumerated) -> bool {
+    e.known & (e.cells <= CELLS)
 }
 
-// The number of activities, which the enumerator does not tell. A refused file has none.
-fn acts(file: &[u8]) -> u64 {
+fn is_refusal(r: Refusal, number: u64, figure: u64) -> bool {
+    (plan::number(r) == number) & (plan::figure(r) == figure)
+}
+
+// READ has the enumerator's numbers, or its refusal.
+pub fn read_agrees(file: &[u8], j: Judged) -> bool {
     match read::read(file) {
         ReadAnswer::Read {
             acts,
-            nodes: _,
-            variants: _,
-        } => acts,
-        ReadAnswer::Refused(_) => 0,
+            nodes,
+            variants,
+        } => {
+            let is_same = (acts == j.acts as u64) & (nodes == j.nodes as u64);
+            (j.number == 0) & is_same & (variants == wide(j.variants))
+        }
+        ReadAnswer::Refused(r) => is_refusal(r, j.number, j.figure),
     }
 }
 
-fn over_cap(r: Refusal, e: Enumerated) -> bool {
-    CAP < e.count && plan::number(r) == 7
-}
-
-// COUNT has the enumerator's number of active sessions.
-fn count_agrees(file: &[u8], e: Enumerated) -> bool {
-    match calls::count(file, CAP) {
-        CountAnswer::Counted(n) => n == wide(e.count),
-        CountAnswer::Refused(r) => over_cap(r, e),
+// COUNT has the enumerator's number of active sessions, if that is within the cap.
+fn count_agrees(file: &[u8], cap: u32, e: Enumerated) -> bool {
+    match calls::count(file, cap) {
+        CountAnswer::Counted(n) => (e.count <= cap) & (n == wide(e.count)),
+        CountAnswer::Refused(r) => (cap < e.count) & is_refusal(r, 7, 0),
     }
 }
 
-// BEST has the least makespan that the enumerator found among all feasible sessions.
-fn best_agrees(file: &[u8], e: Enumerated) -> bool {
-    let best = calls::best(file, CAP);
-    let answer = best.answer;
-    match answer {
-        BestAnswer::Found {
-            variant: _,
-            makespan,
-            count,
-        } => makespan == wide(e.makespan) && count == wide(e.count),
-        BestAnswer::Refused(r) => over_cap(r, e),
+fn list_refuses(r: Refusal, cap: u32, cells: usize, e: Enumerated) -> bool {
+    if cap < e.count {
+        return is_refusal(r, 7, 0);
+    }
+    (cells < e.cells) & is_refusal(r, 8, e.cells as u64)
+}
+
+// LIST has the enumerator's rows, if they are within cap and area, and leaves every other cell.
+fn list_in(file: &[u8], cap: u32, area: &mut [u16], e: Enumerated, own: &[u16]) -> bool {
+    match calls::list(file, cap, area) {
+        ListAnswer::Listed(rows) => {
+            let has_room = (e.count <= cap) & (e.cells <= area.len());
+            let is_same = (rows == wide(e.count)) & same_rows(area, own, e.count, e.acts);
+            has_room & is_same & hold(area, e.cells, BLANK)
+        }
+        ListAnswer::Refused(r) => list_refuses(r, cap, area.len(), e) & hold(area, 0, BLANK),
     }
 }
 
-// An area may be refused where the rows of the enumerator's sessions do not fit it; the figure is then what they need.
-fn too_short(r: Refusal, cells: u64, acts: u64, e: Enumerated) -> bool {
-    let needed = plan::figure(r);
-    if 24 < acts {
+pub fn list_agrees(file: &[u8], cap: u32, cells: usize, e: Enumerated, own: &[u16]) -> bool {
+    if CELLS < cells {
         return false;
     }
-    plan::number(r) == 8
-        && cells < needed
-        && needed % (acts + 1) == 0
-        && needed / (acts + 1) == wide(e.count)
+    let mut area = [BLANK; CELLS];
+    list_in(file, cap, &mut area[..cells], e, own)
 }
 
-// LIST has the enumerator's active sessions, in some order.
-pub fn list_agrees(file: &[u8], e: Enumerated, area: &mut [u16]) -> bool {
-    let n = acts(file);
-    match calls::list(file, CAP, area) {
-        ListAnswer::Listed(rows) => {
-            rows == wide(e.count) && crate::rows::checksum(area, e.count, n as usize) == e.checksum
+// Is a session one of the enumerator's, with the mark at every activity that its row lacks?
+fn is_session(variant: u64, starts: [u16; ACTS], e: Enumerated, own: &[u16]) -> bool {
+    if ABSENT as u64 <= variant {
+        return false;
+    }
+    has_session(own, e.count, variant as u16, &starts, e.acts) & hold(&starts, e.acts, ABSENT)
+}
+
+// BEST has one of the enumerator's sessions, if these are within the cap: one of the least makespan of all feasible ones.
+fn best_agrees(file: &[u8], cap: u32, e: Enumerated, own: &[u16]) -> bool {
+    let best = calls::best(file, cap);
+    let answer = best.answer;
+    let timetable = best.timetable;
+    let starts = timetable.starts;
+    match answer {
+        BestAnswer::Found {
+            variant,
+            makespan,
+            count,
+        } => {
+            let is_counted = (e.count <= cap) & (count == wide(e.count));
+            let own_makespan = enumerator::makespan(file, &starts);
+            let is_least = (makespan == wide(e.makespan)) & (own_makespan == e.makespan);
+            is_counted & is_least & is_session(variant, starts, e, own)
         }
-        ListAnswer::Refused(r) => over_cap(r, e) || too_short(r, area.len() as u64, n, e),
+        BestAnswer::Refused(r) => (cap < e.count) & is_refusal(r, 7, 0),
     }
 }
 
-pub fn agrees(file: &[u8], e: Enumerated) -> bool {
-    let mut area = [0u16; 65536];
-    read_agrees(file, e)
-        && count_agrees(file, e)
-        && best_agrees(file, e)
-        && list_agrees(file, e, &mut area)
+// The calls that take a cap, with the largest area.
+fn cap_agrees(file: &[u8], cap: u32, e: Enumerated, own: &[u16]) -> bool {
+    let is_listed = list_agrees(file, cap, CELLS, e, own);
+    count_agrees(file, cap, e) & is_listed & best_agrees(file, cap, e, own)
+}
+
+// All calls, on both sides of the least cap and the least area that give an answer.
+fn agrees(file: &[u8], e: Enumerated, own: &[u16]) -> bool {
+    if e.count == 0 {
+        return false;
+    }
+    if e.cells == 0 {
+        return false;
+    }
+    let is_read = read_agrees(file, plain::judge(file));
+    let is_capped = cap_agrees(file, e.count, e, own) & cap_agrees(file, e.count - 1, e, own);
+    let has_room = list_agrees(file, MOST, e.cells, e, own);
+    is_read & is_capped & has_room & list_agrees(file, MOST, e.cells - 1, e, own)
+}
+
+// What the enumerator found, and whether the planner agrees. What could not be compared does not agree.
+pub struct Comparison {
+    pub known: bool,
+    pub same: bool,
+    pub count: u32,
+    pub makespan: u32,
+}
+
+pub fn compared(file: &[u8]) -> Comparison {
+    let mut own = [0u16; CELLS];
+    let e = enumerator::enumerate(file, &mut own);
+    let known = is_known(e);
+    Comparison {
+        known,
+        same: known && agrees(file, e, &own),
+        count: e.count,
+        makespan: e.makespan,
+    }
 }

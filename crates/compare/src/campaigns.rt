@@ -1,57 +1,105 @@
-// The campaigns that have few enough sessions to try them all, and one that has the most variants.
+// The campaigns whose sessions are few enough to try them all, and those that READ settles. The figures are the enumerator's.
+use crate::agreement::CELLS;
+use crate::agreement::MOST;
+use crate::agreement::compared;
+use crate::agreement::is_known;
+use crate::agreement::list_agrees;
+use crate::agreement::read_agrees;
 
-fn put_agree(name: &[u8], agrees: bool) {
+// What could not be compared does not agree.
+fn put_agree(name: &[u8], is_known: bool, is_same: bool) {
     console::put(b"campaign=");
     console::put(name);
-    if agrees {
+    if !is_known {
+        console::put(b" not_compared");
+    } else if is_same {
         console::put(b" agree=yes");
     } else {
         console::put(b" agree=no");
     }
 }
 
-fn put_figure(key: &[u8], n: u32) {
+fn put_figure(key: &[u8], n: u64) {
     console::put(key);
-    console::put_number(n as u64);
+    console::put_number(n);
 }
 
-// All calls on a campaign's file, and the enumerator's figures.
-fn put_campaign(name: &[u8], file: &[u8]) {
-    let e = enumerator::enumerate(file);
-    put_agree(name, e.known && crate::agreement::agrees(file, e));
-    put_figure(b" variants=", e.variants);
-    put_figure(b" count=", e.count);
-    put_figure(b" makespan=", e.makespan);
+fn put_refusal(number: u64, figure: u64) {
+    put_figure(b" refused=", number);
+    put_figure(b" figure=", figure);
     console::put(b"\n");
 }
 
-// READ alone: the sessions are too many to try, the variants are not.
-fn put_variants(name: &[u8], file: &[u8]) {
-    let e = enumerator::enumerate(file);
-    put_agree(name, crate::agreement::read_agrees(file, e));
-    put_figure(b" variants=", e.variants);
+// READ alone.
+fn put_read(name: &[u8], file: &[u8]) {
+    let j = plain::judge(file);
+    put_agree(name, j.known, read_agrees(file, j));
+    if j.number != 0 {
+        put_refusal(j.number, j.figure);
+        return;
+    }
+    put_figure(b" variants=", j.variants as u64);
     console::put(b"\n");
+}
+
+// LIST in an area of so many cells.
+fn put_list(name: &[u8], file: &[u8], cells: usize) {
+    let mut own = [0u16; CELLS];
+    let e = enumerator::enumerate(file, &mut own);
+    put_agree(name, is_known(e), list_agrees(file, MOST, cells, e, &own));
+    if cells < e.cells {
+        put_refusal(8, e.cells as u64);
+        return;
+    }
+    put_figure(b" rows=", e.count as u64);
+    console::put(b"\n");
+}
+
+// All calls.
+fn put_all_calls(name: &[u8], file: &[u8]) {
+    let c = compared(file);
+    put_agree(name, c.known, c.same);
+    put_figure(b" count=", c.count as u64);
+    put_figure(b" makespan=", c.makespan as u64);
+    console::put(b"\n");
+}
+
+fn put_dot_test(file: &[u8]) {
+    put_all_calls(b"dot_test", file);
+    put_list(b"dot_test_in_18_cells", file, 18);
+    put_list(b"dot_test_in_17_cells", file, 17);
+}
+
+fn put_sessions() {
+    put_all_calls(b"two_contested", &samples::two_contested());
+    put_all_calls(b"free_device_waits", &samples::free_device_waits());
+    put_all_calls(b"twice_under_x", &samples::twice_under_x());
+    put_all_calls(b"example_2", &samples::example_2());
+}
+
+fn put_variants() {
+    put_read(b"twelve_choices", &samples::twelve_choices());
+    put_read(
+        b"twelve_choices_and_one",
+        &samples::twelve_choices_and_one(),
+    );
+}
+
+fn put_lengths() {
+    put_read(b"empty_file", b"");
+    put_read(b"file_of_960_bytes", &[b'a'; 960]);
+}
+
+fn put_faults() {
+    put_read(b"twice_under_p", &samples::twice_under_p());
+    put_read(b"leading_zero", &samples::leading_zero());
+    put_read(b"duration_2001", &samples::duration_2001());
 }
 
 pub fn put_all() {
-    put_campaign(
-        b"dot_test",
-        b"plan=1\nres=3\nacts=5\nact=0,4\nact=1,2\nact=1,3\nact=2,5\nact=1,6\nnodes=9\nnode=s,2\nnode=x,2\nnode=a,0\nnode=p,2\nnode=a,1\nnode=a,2\nnode=p,2\nnode=a,3\nnode=a,4\n",
-    );
-    put_campaign(
-        b"two_contested_devices",
-        b"plan=1\nres=2\nacts=4\nact=0,1\nact=0,1\nact=1,1\nact=1,1\nnodes=5\nnode=p,4\nnode=a,0\nnode=a,1\nnode=a,2\nnode=a,3\n",
-    );
-    put_campaign(
-        b"free_device_waits",
-        b"plan=1\nres=2\nacts=4\nact=0,10\nact=1,1\nact=0,1\nact=1,20\nnodes=6\nnode=p,2\nnode=a,0\nnode=s,3\nnode=a,1\nnode=a,2\nnode=a,3\n",
-    );
-    put_campaign(
-        b"x_over_activity_0_twice",
-        b"plan=1\nres=1\nacts=1\nact=0,1\nnodes=3\nnode=x,2\nnode=a,0\nnode=a,0\n",
-    );
-    put_variants(
-        b"p_over_twelve_x",
-        b"plan=1\nres=1\nacts=24\nact=0,1\nact=0,1\nact=0,1\nact=0,1\nact=0,1\nact=0,1\nact=0,1\nact=0,1\nact=0,1\nact=0,1\nact=0,1\nact=0,1\nact=0,1\nact=0,1\nact=0,1\nact=0,1\nact=0,1\nact=0,1\nact=0,1\nact=0,1\nact=0,1\nact=0,1\nact=0,1\nact=0,1\nnodes=37\nnode=p,12\nnode=x,2\nnode=a,0\nnode=a,1\nnode=x,2\nnode=a,2\nnode=a,3\nnode=x,2\nnode=a,4\nnode=a,5\nnode=x,2\nnode=a,6\nnode=a,7\nnode=x,2\nnode=a,8\nnode=a,9\nnode=x,2\nnode=a,10\nnode=a,11\nnode=x,2\nnode=a,12\nnode=a,13\nnode=x,2\nnode=a,14\nnode=a,15\nnode=x,2\nnode=a,16\nnode=a,17\nnode=x,2\nnode=a,18\nnode=a,19\nnode=x,2\nnode=a,20\nnode=a,21\nnode=x,2\nnode=a,22\nnode=a,23\n",
-    );
+    put_dot_test(&samples::dot_test());
+    put_sessions();
+    put_variants();
+    put_lengths();
+    put_faults();
 }

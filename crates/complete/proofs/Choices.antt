@@ -107,7 +107,7 @@ module _ (p : Project) (device : ℕ → ℕ) (q : Problem) (present : ℕ) (giv
       let (j, l, e) = least-of most (model.keyOf q s) (omega (arith, key-le i o, key-small i o)) in
       let oj : Open p F j = key-open j (omega (arith, key-le i o, key-small i o)) in
       let this : model.key q s ≡ 16 * soonestEnd p device F S j + device j = omega (arith, key-of j oj) in
-      let low : device j < 16 = given .few j (oj .has) in
+      let low : device j < devices = given .few j (oj .has) in
       record {
         least = λ x ox. omega (arith, key-le x ox, key-of x ox, given .few x (ox .has));
         who = j;

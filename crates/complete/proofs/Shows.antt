@@ -8,6 +8,7 @@ use mathlib.Core.Path.{_≡_, refl, sym, ap, _∙_}
 use mathlib.Core.Logic.{by-cases}
 use lib.ListN.{length, getD}
 use borrow.Author.Tests.{not-true, not-false}
+use Rattle.plan.specs.Limits.{longestDuration}
 use Rattle.schedule.specs.Below.{sumBelow, maxBelow}
 use Rattle.schedule.specs.Bounds.{work}
 use Rattle.schedule.specs.Project.{Project}
@@ -35,8 +36,8 @@ pub record Stands (p : Project) (device : ℕ → ℕ) (q : Problem) (present : 
   pub order : (i j : ℕ) → Has p i → Has p j → has (q .preds j) i ≡ p .precedes i j
   pub short : 16 * work p + 16 ≤ never
 
--- At most 24 activities of at most 2000 ticks each.
-pub short-work : (p : Project) → p .size ≤ most → ((i : ℕ) → Has p i → p .duration i ≤ 2000) → 16 * work p + 16 ≤ never
+-- At most `most` activities of at most `longestDuration` ticks each.
+pub short-work : (p : Project) → p .size ≤ most → ((i : ℕ) → Has p i → p .duration i ≤ longestDuration) → 16 * work p + 16 ≤ never
 unfolding work
 short-work p small short =
     omega (
@@ -44,7 +45,7 @@ short-work p small short =
       sum-const
           (p .size)
           (λ i. cond (p .present i) (p .duration i) 0)
-          2000
+          longestDuration
           (λ i l.
           by-bool
           (p .present i)

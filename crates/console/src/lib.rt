@@ -9,6 +9,9 @@ use listing::BestAnswer;
 use plan::Refusal;
 use timetable::Timetable;
 
+// An area for a plan file: one byte more than an accepted one has, so that a longer one is seen to be longer.
+pub const FILE: usize = plan::LONGEST + 1;
+
 // What was read. Where a read failed, the length is that of what came before.
 pub struct Input {
     pub is_read: bool,
@@ -98,7 +101,7 @@ fn put_start(activity: usize, start: u16) -> bool {
 fn put_starts(timetable: Timetable) -> bool {
     let starts = timetable.starts;
     let mut i = 0;
-    while i < 24 {
+    while i < plan::MOST_ACTS {
         if !put_start(i, starts[i]) {
             return false;
         }

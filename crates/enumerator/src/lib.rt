@@ -1,94 +1,79 @@
 // A plain enumerator of the active sessions of a plan file, by the definitions alone. It shares no code with the planner.
-mod checksum;
-mod plan;
+mod placing;
 mod relation;
-mod search;
+mod rows;
 mod session;
-mod text;
-mod variant;
 
-pub use checksum::mix;
-use plan::Plan;
-use variant::Picks;
-use variant::Variant;
+use placing::Search;
+use plain::ACTS;
+use plain::Plan;
+use plain::Variant;
 
-// What a plan's variants have together: their number, that of their active sessions, the least makespan of a feasible
-// session, how many active ones have it, and the sum of `mix` over the active ones, modulo 2^32. Where the file could not be
-// followed, or too many sessions were tried, `known` is false; the number of variants holds then too where the nodes are
-// one term, and is 0 where they are not.
+// The start of an activity that is absent.
+pub const ABSENT: u16 = 65535;
+
+// The number of activities, and what the variants have together: the number of their active sessions, the least makespan of a
+// feasible session, and how many cells the rows of the active ones take. Where the file is refused, or too many starts were
+// tried, `known` is false and the rest means nothing.
 pub struct Enumerated {
     pub known: bool,
-    pub variants: u32,
+    pub acts: usize,
     pub count: u32,
     pub makespan: u32,
-    pub shortest: u32,
-    pub checksum: u32,
-    pub tried: u32,
+    pub cells: usize,
 }
 
-fn unknown(e: Enumerated) -> Enumerated {
-    let mut f = e;
-    f.known = false;
-    f
+// The sessions of one more variant.
+fn with_variant(p: Plan, v: Variant, s: Search, area: &mut [u16]) -> Search {
+    let relations = relation::relations(p, v);
+    let duration = v.duration;
+    let mut t = s;
+    t.room = v.room;
+    t = placing::place(&relations, &duration, [ABSENT; ACTS], 0, t, area);
+    t.variant = std::num::wrapping_add_u16(s.variant, 1);
+    t
 }
 
-// The sessions of one more variant, whose number is the count of those before it.
-fn with_variant(p: Plan, v: Variant, e: Enumerated) -> Enumerated {
-    let mut f = e;
-    if !v.ok {
-        f.known = false;
-    } else if e.tried < search::LIMIT {
-        let relations = relation::relations(p, v);
-        let duration = v.duration;
-        f = search::place(
-            &relations,
-            &duration,
-            p.acts,
-            v.room,
-            [session::ABSENT; 24],
-            0,
-            e,
-        );
+fn over_variants(p: Plan, variants: u32, area: &mut [u16]) -> Search {
+    let mut s = placing::start(p.acts);
+    let mut picks = plain::first();
+    for i in 0..variants {
+        let v = plain::picked(p, picks);
+        s = with_variant(p, v, s, area);
+        picks = plain::next(picks, v, p);
     }
-    f.variants = std::num::wrapping_add_u32(e.variants, 1);
-    f
+    s
 }
 
-// The variants one by one, up to twice as many as a plan may have.
-fn over_variants(p: Plan, none: Enumerated) -> Enumerated {
-    let mut e = none;
-    let mut picks = Picks {
-        turned: false,
-        digit: [0; 64],
-    };
-    for i in 0usize..8192 {
-        let v = variant::picked(p, picks);
-        e = with_variant(p, v, e);
-        picks = variant::next(picks, v, p);
-        if !picks.turned {
-            return e;
-        }
-    }
-    unknown(e)
-}
-
-pub fn enumerate(file: &[u8]) -> Enumerated {
-    let p = text::read(file);
-    let none = Enumerated {
-        known: true,
-        variants: 0,
+fn unknown() -> Enumerated {
+    Enumerated {
+        known: false,
+        acts: 0,
         count: 0,
-        makespan: 4294967295,
-        shortest: 0,
-        checksum: 0,
-        tried: 0,
-    };
-    if !plan::whole(p) {
-        return unknown(none);
+        makespan: 0,
+        cells: 0,
     }
-    let e = over_variants(p, none);
-    if search::LIMIT <= e.tried {
-        return unknown(e);
+}
+
+// The active sessions of a plan, their rows from the front of the area. A row that does not fit is left out.
+pub fn enumerate(file: &[u8], area: &mut [u16]) -> Enumerated {
+    let judged = plain::judge(file);
+    if !judged.known | (judged.number != 0) {
+        return unknown();
     }
-    e
+    let s = over_variants(plain::read(file), judged.variants, area);
+    Enumerated {
+        known: s.tried < placing::LIMIT,
+        acts: s.acts,
+        count: s.count,
+        makespan: s.makespan,
+        cells: s.cells,
+    }
+}
+
+// The makespan of a session that has these starts.
+pub fn makespan(file: &[u8], starts: &[u16; ACTS]) -> u32 {
+    let p = plain::read(file);
+    let duration = p.duration;
+    session::makespan(session::spanned(&duration, starts))
 }

@@ -1,7 +1,12 @@
 // How two activities of a variant stand to each other: in sequence, on one device, or free.
-use crate::plan::NONE;
-use crate::plan::Plan;
-use crate::variant::Variant;
+use plain::ACTS;
+use plain::NODES;
+use plain::NONE;
+use plain::Plan;
+use plain::Variant;
+
+// Pairs of activities.
+pub const PAIRS: usize = ACTS * ACTS;
 
 const FREE: u8 = 0;
 
@@ -11,20 +16,33 @@ pub const AFTER: u8 = 2;
 
 pub const APART: u8 = 3;
 
+// The node where a node and an earlier one part: the nearest above the later that does not come after the earlier.
+fn parting(p: Plan, earlier: usize, later: usize) -> usize {
+    let mut node = later;
+    for i in 0..NODES {
+        if node < NODES {
+            if earlier < node {
+                node = p.parent[node];
+            }
+        }
+    }
+    node
+}
+
 // Do two nodes part at an s?
 fn in_sequence(p: Plan, earlier: usize, later: usize) -> bool {
-    let node = crate::plan::parting(p, earlier, later);
-    if 64 <= node {
+    let node = parting(p, earlier, later);
+    if NODES <= node {
         return false;
     }
     p.letter[node] == b's'
 }
 
 fn relation(p: Plan, v: Variant, i: usize, j: usize) -> u8 {
-    if 24 <= i {
+    if ACTS <= i {
         return FREE;
     }
-    if 24 <= j {
+    if ACTS <= j {
         return FREE;
     }
     let a = v.node[i];
@@ -45,11 +63,11 @@ fn relation(p: Plan, v: Variant, i: usize, j: usize) -> u8 {
     }
 }
 
-// The relation of activities i and j, at i * 24 + j.
-pub fn relations(p: Plan, v: Variant) -> [u8; 576] {
-    let mut all = [FREE; 576];
-    for k in 0usize..576 {
-        all[k] = relation(p, v, k / 24, k % 24);
+// The relation of activities i and j, at i * ACTS + j.
+pub fn relations(p: Plan, v: Variant) -> [u8; PAIRS] {
+    let mut all = [FREE; PAIRS];
+    for k in 0..PAIRS {
+        all[k] = relation(p, v, k / ACTS, k % ACTS);
     }
     all
 }

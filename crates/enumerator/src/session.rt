@@ -1,10 +1,11 @@
-// Feasible and active, by definition. A session under way has a start for some of the activities of its variant.
+// Feasible and active, by definition. A session under way has a start for some of the activities of its variant;
+// the others are absent.
+use crate::ABSENT;
 use crate::relation::AFTER;
 use crate::relation::APART;
 use crate::relation::BEFORE;
-
-// The start of an activity that is absent, or has none yet.
-pub const ABSENT: u16 = 65535;
+use crate::relation::PAIRS;
+use plain::ACTS;
 
 pub fn wide(n: u16) -> u32 {
     n as u32
@@ -30,17 +31,17 @@ fn agree(relation: u8, start: u32, end: u32, other_start: u32, other_end: u32) -
 
 // May activity i start at a tick beside activity j as it stands?
 fn beside<'a>(
-    relations: &'a [u8; 576],
-    duration: &'a [u16; 24],
-    starts: &'a [u16; 24],
+    relations: &'a [u8; PAIRS],
+    duration: &'a [u16; ACTS],
+    starts: &'a [u16; ACTS],
     i: usize,
     tick: u16,
     j: usize,
 ) -> bool {
-    if 24 <= i {
+    if ACTS <= i {
         return false;
     }
-    if 24 <= j {
+    if ACTS <= j {
         return false;
     }
     if starts[j] == ABSENT {
@@ -48,7 +49,7 @@ fn beside<'a>(
     }
     let start = starts[j];
     agree(
-        relations[i * 24 + j],
+        relations[i * ACTS + j],
         wide(tick),
         end(tick, duration[i]),
         wide(start),
@@ -58,9 +59,9 @@ fn beside<'a>(
 
 // May activity i start at a tick, the others of the first n as they stand?
 pub fn fits<'a>(
-    relations: &'a [u8; 576],
-    duration: &'a [u16; 24],
-    starts: &'a [u16; 24],
+    relations: &'a [u8; PAIRS],
+    duration: &'a [u16; ACTS],
+    starts: &'a [u16; ACTS],
     n: usize,
     i: usize,
     tick: u16,
@@ -75,9 +76,9 @@ pub fn fits<'a>(
 
 // May activity i start sooner, the others unchanged?
 fn movable<'a>(
-    relations: &'a [u8; 576],
-    duration: &'a [u16; 24],
-    starts: &'a [u16; 24],
+    relations: &'a [u8; PAIRS],
+    duration: &'a [u16; ACTS],
+    starts: &'a [u16; ACTS],
     n: usize,
     i: usize,
     start: u16,
@@ -94,12 +95,12 @@ fn movable<'a>(
 }
 
 pub fn active<'a>(
-    relations: &'a [u8; 576],
-    duration: &'a [u16; 24],
-    starts: &'a [u16; 24],
+    relations: &'a [u8; PAIRS],
+    duration: &'a [u16; ACTS],
+    starts: &'a [u16; ACTS],
     n: usize,
 ) -> bool {
-    for i in 0usize..24 {
+    for i in 0..ACTS {
         if movable(relations, duration, starts, n, i, starts[i]) {
             return false;
         }
@@ -131,13 +132,13 @@ fn widened(s: Span, start: u16, duration: u16) -> Span {
     r
 }
 
-pub fn spanned<'a>(duration: &'a [u16; 24], starts: &'a [u16; 24]) -> Span {
+pub fn spanned<'a>(duration: &'a [u16; ACTS], starts: &'a [u16; ACTS]) -> Span {
     let mut s = Span {
-        first: 65535,
+        first: wide(ABSENT),
         last: 0,
         ticks: 0,
     };
-    for i in 0usize..24 {
+    for i in 0..ACTS {
         s = widened(s, starts[i], duration[i]);
     }
     s

@@ -1,11 +1,13 @@
 // Is a timetable a feasible session of a variant?
 ghost use mathlib.Core.Path.{_≡_};
 ghost use Prim.Native.Nat.{_<_, _≤_};
+ghost use Rattle.plan.specs.Limits.{mostActs};
 ghost use Rattle.plan.specs.Plan.{Plan};
 ghost use Rattle.term.specs.Term.{Term};
 ghost use Rattle.sessions.specs.Timetable.{isSession};
 ghost use Rattle.feasibility.specs.Stands.{Stands};
 ghost use Rattle.feasibility.specs.Model.{markRight, marksRight, endsBy, apart, agree, placeRight, placesRight};
+use plan::MOST_ACTS;
 use timetable::Timetable;
 
 // The mark at an absent activity, and at no other.
@@ -18,11 +20,11 @@ fn mark_right(there: bool, start: u16) -> bool
     start == Timetable::MARK
 }
 
-fn marks_right(present: u32, starts: &[u16; 24]) -> bool
+fn marks_right(present: u32, starts: &[u16; MOST_ACTS]) -> bool
     ensures { λ r. ⌜ r ≡ marksRight present (now (starts .entry)) ⌝ }
 {
     let mut i: usize = 0;
-    while i < 24 {
+    while i < MOST_ACTS {
         if !mark_right(sets::contains(present, i), starts[i]) {
             return false;
         }
@@ -38,8 +40,8 @@ fn wide(x: u16) -> u32
 }
 
 // Activity i ends by the start of j.
-fn ends_by(duration: &[u16; 24], starts: &[u16; 24], i: usize, j: usize) -> bool
-    requires { ⌜ (i < 24) × (j < 24) ⌝ }
+fn ends_by(duration: &[u16; MOST_ACTS], starts: &[u16; MOST_ACTS], i: usize, j: usize) -> bool
+    requires { ⌜ (i < mostActs) × (j < mostActs) ⌝ }
     ensures { λ r. ⌜ r ≡ endsBy (now (duration .entry)) (now (starts .entry)) i j ⌝ }
 {
     wide(starts[i]) + wide(duration[i]) <= wide(starts[j])
@@ -47,13 +49,13 @@ fn ends_by(duration: &[u16; 24], starts: &[u16; 24], i: usize, j: usize) -> bool
 
 // Two on one resource do not overlap.
 fn apart_at(
-    resource: &[u16; 24],
-    duration: &[u16; 24],
-    starts: &[u16; 24],
+    resource: &[u16; MOST_ACTS],
+    duration: &[u16; MOST_ACTS],
+    starts: &[u16; MOST_ACTS],
     i: usize,
     j: usize,
 ) -> bool
-    requires { ⌜ (i < 24) × (j < 24) ⌝ }
+    requires { ⌜ (i < mostActs) × (j < mostActs) ⌝ }
     ensures { λ r. ⌜ r ≡ apart (now (resource .entry)) (now (duration .entry)) (now (starts .entry)) i j ⌝ }
 {
     if i == j {
@@ -70,15 +72,15 @@ fn apart_at(
 
 // Activity j goes with i, where `before` has those that precede j. One that ends by the start of j does not overlap it.
 fn agree_at(
-    resource: &[u16; 24],
-    duration: &[u16; 24],
+    resource: &[u16; MOST_ACTS],
+    duration: &[u16; MOST_ACTS],
     present: u32,
     before: u32,
-    starts: &[u16; 24],
+    starts: &[u16; MOST_ACTS],
     i: usize,
     j: usize,
 ) -> bool
-    requires { ⌜ (i < 24) × (j < 24) ⌝ }
+    requires { ⌜ (i < mostActs) × (j < mostActs) ⌝ }
     ensures { λ r. ⌜ r ≡ agree (now (resource .entry)) (now (duration .entry)) present before (now (starts .entry)) i j ⌝ }
 {
     if !sets::contains(present, i) {
@@ -92,14 +94,14 @@ fn agree_at(
 
 fn place_right(
     acts: usize,
-    resource: &[u16; 24],
-    duration: &[u16; 24],
+    resource: &[u16; MOST_ACTS],
+    duration: &[u16; MOST_ACTS],
     present: u32,
     before: u32,
-    starts: &[u16; 24],
+    starts: &[u16; MOST_ACTS],
     j: usize,
 ) -> bool
-    requires { ⌜ (acts ≤ 24) × (j < 24) ⌝ }
+    requires { ⌜ (acts ≤ mostActs) × (j < mostActs) ⌝ }
     ensures { λ r. ⌜ r ≡ placeRight acts (now (resource .entry)) (now (duration .entry)) present before (now (starts .entry)) j ⌝ }
 {
     if !sets::contains(present, j) {
@@ -117,13 +119,13 @@ fn place_right(
 
 fn places_right(
     acts: usize,
-    resource: &[u16; 24],
-    duration: &[u16; 24],
+    resource: &[u16; MOST_ACTS],
+    duration: &[u16; MOST_ACTS],
     present: u32,
-    preds: &[u32; 24],
-    starts: &[u16; 24],
+    preds: &[u32; MOST_ACTS],
+    starts: &[u16; MOST_ACTS],
 ) -> bool
-    requires { ⌜ acts ≤ 24 ⌝ }
+    requires { ⌜ acts ≤ mostActs ⌝ }
     ensures { λ r. ⌜ r ≡ placesRight acts (now (resource .entry)) (now (duration .entry)) present (now (preds .entry)) (now (starts .entry)) ⌝ }
 {
     let mut j: usize = 0;
@@ -136,16 +138,17 @@ fn places_right(
     true
 }
 
-// Yes exactly if the timetable is a session of the variant of the plan that the other arguments stand for, whatever its 24 numbers are.
+// Yes exactly if the timetable is a session of the variant of the plan that the other arguments stand for, whatever its
+// numbers are.
 pub fn is_session(
     acts: usize,
-    resource: &[u16; 24],
-    duration: &[u16; 24],
+    resource: &[u16; MOST_ACTS],
+    duration: &[u16; MOST_ACTS],
     present: u32,
-    preds: &[u32; 24],
-    starts: &[u16; 24],
+    preds: &[u32; MOST_ACTS],
+    starts: &[u16; MOST_ACTS],
 ) -> bool
-    requires { ⌜ acts ≤ 24 ⌝ }
+    requires { ⌜ acts ≤ mostActs ⌝ }
     ensures { λ r. ⌜ ((p : Plan) (w : Term) → Stands p w acts (now (resource .entry)) (now (duration .entry)) present (now (preds .entry)) → r ≡ isSession p w (now (starts .entry))) ⌝ }
 {
     if !marks_right(present, starts) {

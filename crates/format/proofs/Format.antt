@@ -9,6 +9,8 @@ use lib.Dec.{ltb, eqb}
 use lib.ListN.{length}
 use Rattle.plan.specs.Limits.{
   longest,
+  mostResources,
+  mostActs,
   isEdition,
   isResourceCount,
   isActCount,
@@ -50,8 +52,8 @@ use Rattle.format.proofs.Short.{text-short, text-some}
 lines-of-text : (p : Plan) → Sound p → (line : ℕ) × (planLines 1 (text p) ≡ read p line [])
 unfolding planLines text theEnd
 lines-of-text p ok =
-    let r : p .resources ≤ 16 = between-facts 1 16 (p .resources) (ok .resources) .1 in
-    let n : length (p .activities) ≤ 24 = between-facts 1 24 (length (p .activities)) (ok .acts) .1 in
+    let r : p .resources ≤ mostResources = between-facts 1 mostResources (p .resources) (ok .resources) .1 in
+    let n : length (p .activities) ≤ mostActs = between-facts 1 mostActs (length (p .activities)) (ok .acts) .1 in
     let (l₁, e₁) = edition-line .reads 1 1 _ refl in
     let (l₂, e₂) = resources-line .reads (p .resources) l₁ _ (ok .resources) in
     let (l₃, e₃) = acts-line .reads (length (p .activities)) l₂ _ (ok .acts) in
@@ -81,9 +83,9 @@ text-of-lines s p line rest e =
     let w₁ = edition-line .wrote 1 s e₀ l₁ s₁ h₁ in
     let w₂ = resources-line .wrote l₁ s₁ r l₂ s₂ h₂ in
     let w₃ = acts-line .wrote l₂ s₂ n l₃ s₃ h₃ in
-    let w₄ = act-lines r n (between-facts 1 16 r (w₂ .0) .1) .wrote l₃ s₃ acts l₄ s₄ h₄ in
+    let w₄ = act-lines r n (between-facts 1 mostResources r (w₂ .0) .1) .wrote l₃ s₃ acts l₄ s₄ h₄ in
     let w₅ = nodes-line .wrote l₄ s₄ m l₅ s₅ h₅ in
-    let w₆ = node-lines n m (between-facts 1 24 n (w₃ .0) .1) .wrote l₅ s₅ nodes l₆ s₆ h₆ in
+    let w₆ = node-lines n m (between-facts 1 mostActs n (w₃ .0) .1) .wrote l₅ s₅ nodes l₆ s₆ h₆ in
     let same : record { resources = r; activities = acts; nodes = nodes } ≡ p = cc in
     rw (← same) (
       record {

@@ -1,9 +1,10 @@
 -- A plan whose text is as long as a text can be: every number has the most digits that it can have.
+use Prim.Native.Nat.{_-_}
 use mathlib.Core.Bool.{true}
 use mathlib.Core.List.{_∷_}
 use mathlib.Core.Path.{_≡_, refl}
 use lib.ListN.{length, replicate}
-use Rattle.plan.specs.Limits.{longest}
+use Rattle.plan.specs.Limits.{longest, mostResources, mostActs, longestDuration, mostChildren}
 use Rattle.plan.specs.Plan.{activity, xor, Plan, isPlan}
 use Rattle.format.specs.Lines.{written, filled}
 use Rattle.format.specs.Text.{actLines, nodeLines, text}
@@ -11,9 +12,9 @@ use Rattle.format.specs.Text.{actLines, nodeLines, text}
 abbrev pub longestPlan : Plan
 longestPlan =
     record {
-      resources = 16;
-      activities = replicate 24 (record { resource = 15; duration = 2000 });
-      nodes = xor 63 ∷ replicate 63 (activity 23);
+      resources = mostResources;
+      activities = replicate mostActs (record { resource = mostResources - 1; duration = longestDuration });
+      nodes = xor mostChildren ∷ replicate mostChildren (activity (mostActs - 1));
     }
 
 pub longest-is-plan : isPlan longestPlan ≡ true

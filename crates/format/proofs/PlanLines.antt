@@ -8,6 +8,9 @@ use borrow.Author.Tests.{lt-ltb, eqb-true}
 use lib.ListN.{length, getD}
 use Rattle.plan.specs.Limits.{
   mostDigits,
+  mostResources,
+  mostActs,
+  mostNodes,
   isEdition,
   isResourceCount,
   isActCount,
@@ -68,15 +71,15 @@ edition-line = number-line editionForm isEdition refl refl (λ n e. short n (ome
 
 pub resources-line : Number resourcesForm isResourceCount
 unfolding fitting
-resources-line = number-line resourcesForm isResourceCount refl refl (λ n e. short n (omega (arith, between-facts 1 16 n e)))
+resources-line = number-line resourcesForm isResourceCount refl refl (λ n e. short n (omega (arith, between-facts 1 mostResources n e)))
 
 pub acts-line : Number actsForm isActCount
 unfolding fitting
-acts-line = number-line actsForm isActCount refl refl (λ n e. short n (omega (arith, between-facts 1 24 n e)))
+acts-line = number-line actsForm isActCount refl refl (λ n e. short n (omega (arith, between-facts 1 mostActs n e)))
 
 pub nodes-line : Number nodesForm isNodeCount
 unfolding fitting
-nodes-line = number-line nodesForm isNodeCount refl refl (λ n e. short n (omega (arith, between-facts 1 64 n e)))
+nodes-line = number-line nodesForm isNodeCount refl refl (λ n e. short n (omega (arith, between-facts 1 mostNodes n e)))
 
 -- An activity and a node.
 abbrev pub actLine : Activity → List ℕ
@@ -85,7 +88,7 @@ actLine a = filled actForm (a .resource ∷ a .duration ∷ [])
 abbrev pub nodeLine : Node → List ℕ
 nodeLine m = filled nodeForm (letterOf m ∷ valueOf m ∷ [])
 
-pub act-line : (r : ℕ) → r ≤ 16
+pub act-line : (r : ℕ) → r ≤ mostResources
     → Exact (aLine actForm activity-of (isActivity r)) actLine (λ a. isActivity r a ≡ true)
 unfolding fitting
 act-line r h =
@@ -101,7 +104,7 @@ unfolding fitting
 letter-first [] fit = absurd (false≢true fit)
 letter-first (v ∷ vs) fit = and-left _ _ fit
 
-pub node-line : (n : ℕ) → n ≤ 24
+pub node-line : (n : ℕ) → n ≤ mostActs
     → Exact (aLine nodeForm node-of (isNode n)) nodeLine (λ m. isNode n m ≡ true)
 unfolding fitting
 node-line n h =
@@ -120,8 +123,9 @@ unfolding nodeLines
 node-joined = record { nil = refl; cons = λ m rest. refl }
 
 -- The activities and the nodes, by their counts.
-pub act-lines : (r n : ℕ) → r ≤ 16 → Exact (theLines n (aLine actForm activity-of (isActivity r))) actLines (Count (isActivity r) n)
+pub act-lines : (r n : ℕ) → r ≤ mostResources
+    → Exact (theLines n (aLine actForm activity-of (isActivity r))) actLines (Count (isActivity r) n)
 act-lines r n h = lines-exact (isActivity r) (act-line r h) act-joined n
 
-pub node-lines : (n m : ℕ) → n ≤ 24 → Exact (theLines m (aLine nodeForm node-of (isNode n))) nodeLines (Count (isNode n) m)
+pub node-lines : (n m : ℕ) → n ≤ mostActs → Exact (theLines m (aLine nodeForm node-of (isNode n))) nodeLines (Count (isNode n) m)
 node-lines n m h = lines-exact (isNode n) (node-line n h) node-joined m

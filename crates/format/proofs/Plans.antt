@@ -6,7 +6,15 @@ use native.Mathlib.Omega.{arith}
 use borrow.Author.Tests.{ltb-true, eqb-true}
 use lib.Dec.{ltb, eqb}
 use lib.ListN.{length}
-use Rattle.plan.specs.Limits.{isResourceCount, isActCount, isDuration, isNodeCount}
+use Rattle.plan.specs.Limits.{
+  mostActs,
+  longestDuration,
+  mostChildren,
+  isResourceCount,
+  isActCount,
+  isDuration,
+  isNodeCount,
+}
 use Rattle.plan.specs.Plan.{
   Activity,
   Node,
@@ -63,14 +71,14 @@ module _ (r : ℕ) (a : Activity) (e : isActivity r a ≡ true) where
   pub resource-below : a .resource < r
   resource-below = ltb-true (a .resource) r (and-left (ltb (a .resource) r) (isDuration (a .duration)) e)
 
-  pub duration-between : (1 ≤ a .duration) × (a .duration ≤ 2000)
-  duration-between = between-facts 1 2000 (a .duration) (and-right (ltb (a .resource) r) (isDuration (a .duration)) e)
+  pub duration-between : (1 ≤ a .duration) × (a .duration ≤ longestDuration)
+  duration-between = between-facts 1 longestDuration (a .duration) (and-right (ltb (a .resource) r) (isDuration (a .duration)) e)
 
-pub number-most : (n : ℕ) (m : Node) → n ≤ 24 → isNode n m ≡ true → valueOf m ≤ 63
+pub number-most : (n : ℕ) (m : Node) → n ≤ mostActs → isNode n m ≡ true → valueOf m ≤ mostChildren
 number-most n (activity i) h e = omega (arith, ltb-true i n e)
-number-most n (seq k) h e = between-facts 1 63 k e .1
-number-most n (pll k) h e = between-facts 1 63 k e .1
-number-most n (xor k) h e = between-facts 1 63 k e .1
+number-most n (seq k) h e = between-facts 1 mostChildren k e .1
+number-most n (pll k) h e = between-facts 1 mostChildren k e .1
+number-most n (xor k) h e = between-facts 1 mostChildren k e .1
 
 -- A node is its letter and its number.
 pub node-same : (n : Node) → nodeOf (letterOf n) (valueOf n) ≡ n

@@ -1,5 +1,5 @@
 -- The text of a plan is no longer than `longest`: a line is longest where its values are greatest.
-use Prim.Native.Nat.{ℕ, zero, suc, _*_, _/_, _≤_, suc-le-suc}
+use Prim.Native.Nat.{ℕ, zero, suc, _-_, _*_, _/_, _≤_, suc-le-suc}
 use mathlib.Core.Bool.{Bool, true}
 use mathlib.Core.List.{List, [], _∷_}
 use mathlib.Core.Path.{_≡_, refl}
@@ -10,6 +10,11 @@ use Rattle.plan.specs.Limits.{
   between,
   longest,
   mostDigits,
+  mostResources,
+  mostActs,
+  longestDuration,
+  mostNodes,
+  mostChildren,
   editionForm,
   resourcesForm,
   actsForm,
@@ -78,11 +83,11 @@ filled-longer (b ∷ form) vs ws h = longer (kind b) form (filled-longer form) v
 -- The longest line of each form.
 record Widths : Type 0 where
   edition : length (filled editionForm (1 ∷ [])) ≡ 7
-  resources : length (filled resourcesForm (16 ∷ [])) ≡ 7
-  acts : length (filled actsForm (24 ∷ [])) ≡ 8
-  act : length (filled actForm (15 ∷ 2000 ∷ [])) ≡ 12
-  nodes : length (filled nodesForm (64 ∷ [])) ≡ 9
-  node : (b : ℕ) → length (filled nodeForm (b ∷ 63 ∷ [])) ≡ 10
+  resources : length (filled resourcesForm (mostResources ∷ [])) ≡ 7
+  acts : length (filled actsForm (mostActs ∷ [])) ≡ 8
+  act : length (filled actForm ((mostResources - 1) ∷ longestDuration ∷ [])) ≡ 12
+  nodes : length (filled nodesForm (mostNodes ∷ [])) ≡ 9
+  node : (b : ℕ) → length (filled nodeForm (b ∷ mostChildren ∷ [])) ≡ 10
 
 widths : Widths
 unfolding filled written
@@ -92,21 +97,21 @@ number-short : (form : List ℕ) (high n : ℕ) → between 1 high n ≡ true
     → length (filled form (n ∷ [])) ≤ length (filled form (high ∷ []))
 number-short form high n e = filled-longer form (n ∷ []) (high ∷ []) (between-facts 1 high n e .1, tt)
 
-act-short : (r : ℕ) → r ≤ 16 → (a : Activity) → isActivity r a ≡ true → length (actLine a) ≤ 12
+act-short : (r : ℕ) → r ≤ mostResources → (a : Activity) → isActivity r a ≡ true → length (actLine a) ≤ 12
 act-short r h a e =
     omega (
       arith,
       widths .act,
-      filled-longer actForm (a .resource ∷ a .duration ∷ []) (15 ∷ 2000 ∷ [])
+      filled-longer actForm (a .resource ∷ a .duration ∷ []) ((mostResources - 1) ∷ longestDuration ∷ [])
           (omega (arith, resource-below r a e), (duration-between r a e .1, tt)),
     )
 
-node-short : (n : ℕ) → n ≤ 24 → (m : Node) → isNode n m ≡ true → length (nodeLine m) ≤ 10
+node-short : (n : ℕ) → n ≤ mostActs → (m : Node) → isNode n m ≡ true → length (nodeLine m) ≤ 10
 node-short n h m e =
     omega (
       arith,
       widths .node (letterOf m),
-      filled-longer nodeForm (letterOf m ∷ valueOf m ∷ []) (letterOf m ∷ 63 ∷ []) (omega arith, (number-most n m h e, tt)),
+      filled-longer nodeForm (letterOf m ∷ valueOf m ∷ []) (letterOf m ∷ mostChildren ∷ []) (omega arith, (number-most n m h e, tt)),
     )
 
 -- So many lines, each at most so long.
@@ -125,17 +130,17 @@ module _ (p : Plan) (ok : isPlan p ≡ true) where
   unfolding text
   text-short =
       let sound : Sound p = plan-sound p ok in
-      let resources : p .resources ≤ 16 = between-facts 1 16 (p .resources) (sound .resources) .1 in
-      let acts : length (p .activities) ≤ 24 = between-facts 1 24 (length (p .activities)) (sound .acts) .1 in
+      let resources : p .resources ≤ mostResources = between-facts 1 mostResources (p .resources) (sound .resources) .1 in
+      let acts : length (p .activities) ≤ mostActs = between-facts 1 mostActs (length (p .activities)) (sound .acts) .1 in
       simp length-append
       (omega (
         arith,
         widths,
-        number-short resourcesForm 16 (p .resources) (sound .resources),
-        number-short actsForm 24 (length (p .activities)) (sound .acts),
+        number-short resourcesForm mostResources (p .resources) (sound .resources),
+        number-short actsForm mostActs (length (p .activities)) (sound .acts),
         lines-short act-joined (isActivity (p .resources)) 12 (act-short (p .resources) resources) (p .activities) (sound .activities),
-        number-short nodesForm 64 (length (p .nodes)) (sound .nodeCount),
-        between-facts 1 64 (length (p .nodes)) (sound .nodeCount),
+        number-short nodesForm mostNodes (length (p .nodes)) (sound .nodeCount),
+        between-facts 1 mostNodes (length (p .nodes)) (sound .nodeCount),
         lines-short node-joined (isNode (length (p .activities))) 10 (node-short (length (p .activities)) acts) (p .nodes) (sound .nodes),
       ))
 

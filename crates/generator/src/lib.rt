@@ -2,13 +2,15 @@
 ghost use Prim.Native.Nat.{_≤_};
 ghost use Rattle.generator.specs.Text.{Counts};
 
+mod fault;
 mod random;
-mod term;
 mod text;
+mod tree;
 
+pub use fault::damage;
 use random::below;
 use random::drawn;
-use term::Term;
+use tree::Term;
 
 // The devices of a plan: one, a few, or the most there may be.
 fn devices(state: u64) -> u8 {
@@ -40,7 +42,7 @@ fn activities(out: &mut [u8], start: usize, seed: u64, acts: u8, res: u8) -> usi
     let mut state = seed;
     for i in 0..acts {
         let device = below(state, res);
-        at = text::activity(out, at, device, duration(state / 64, seed / 4096, acts));
+        at = text::activity(out, at, device, duration(state >> 6, seed >> 12, acts));
         state = drawn(state);
     }
     at
@@ -51,7 +53,7 @@ fn nodes(out: &mut [u8], start: usize, t: Term) -> usize
 {
     let mut at = text::line(out, start, b"nodes=", t.nodes);
     for i in 0..t.nodes {
-        at = text::node(out, at, term::letter(t, i), term::number(t, i));
+        at = text::node(out, at, tree::letter(t, i), tree::number(t, i));
     }
     at
 }
@@ -70,5 +72,5 @@ pub fn generate(seed: u64, out: &mut [u8]) -> usize
     at = text::line(out, at, b"acts=", acts);
     at = activities(out, at, third, acts, res);
     let apart = drawn(third / 2 + 1);
-    nodes(out, at, term::grown(apart, acts))
+    nodes(out, at, tree::grown(apart, acts))
 }

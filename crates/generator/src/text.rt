@@ -1,7 +1,7 @@
 // The lines of a plan file, each written at a position; a writer returns the position after what it wrote.
 ghost use Rattle.generator.specs.Text.{Counts};
 
-fn put(out: &mut [u8], at: usize, b: u8) -> usize
+pub fn put(out: &mut [u8], at: usize, b: u8) -> usize
     ensures { λ r. ⌜ Counts r (now (out .exit)) ⌝ }
 {
     if out.len() <= at {
@@ -9,6 +9,13 @@ fn put(out: &mut [u8], at: usize, b: u8) -> usize
     }
     out[at] = b;
     at + 1
+}
+
+// A position, or the end of the area where that comes first.
+pub fn within(out: &mut [u8], at: usize) -> usize
+    ensures { λ r. ⌜ Counts r (now (out .exit)) ⌝ }
+{
+    if out.len() <= at { out.len() } else { at }
 }
 
 fn word(out: &mut [u8], start: usize, bytes: &[u8]) -> usize {

@@ -1,2 +1,3 @@
 -- What CHECK answers.
 pub mod Answer
+pub mod Words

@@ -5,6 +5,7 @@ use mathlib.Core.Bool.{true}
 use mathlib.Core.Logic.{_↔_}
 use mathlib.Core.Path.{_≡_, refl}
 use lib.ListN.{length}
+use Rattle.plan.specs.Limits.{mostResources, mostActs, longestDuration}
 use Rattle.plan.specs.Plan.{Plan, isActivity, isPlan}
 use Rattle.format.proofs.Plans.{plan-sound, resource-below, duration-between}
 use Rattle.format.proofs.Tests.{every-at, between-facts}
@@ -21,11 +22,11 @@ abbrev pub deviceOf : Plan → ℕ → ℕ
 deviceOf p i = activityAt p i .resource
 
 module _ (p : Plan) (valid : isPlan p ≡ true) where
-  pub acts-between : (1 ≤ length (p .activities)) × (length (p .activities) ≤ 24)
-  acts-between = between-facts 1 24 (length (p .activities)) (plan-sound p valid .acts)
+  pub acts-between : (1 ≤ length (p .activities)) × (length (p .activities) ≤ mostActs)
+  acts-between = between-facts 1 mostActs (length (p .activities)) (plan-sound p valid .acts)
 
-  pub resources-between : (1 ≤ p .resources) × (p .resources ≤ 16)
-  resources-between = between-facts 1 16 (p .resources) (plan-sound p valid .resources)
+  pub resources-between : (1 ≤ p .resources) × (p .resources ≤ mostResources)
+  resources-between = between-facts 1 mostResources (p .resources) (plan-sound p valid .resources)
 
   is-activity : (i : ℕ) → i < length (p .activities) → isActivity (p .resources) (activityAt p i) ≡ true
   is-activity i h =
@@ -34,7 +35,7 @@ module _ (p : Plan) (valid : isPlan p ≡ true) where
   pub device-below : (i : ℕ) → i < length (p .activities) → deviceOf p i < p .resources
   device-below i h = resource-below (p .resources) (activityAt p i) (is-activity i h)
 
-  pub duration-at : (i : ℕ) → i < length (p .activities) → (1 ≤ activityAt p i .duration) × (activityAt p i .duration ≤ 2000)
+  pub duration-at : (i : ℕ) → i < length (p .activities) → (1 ≤ activityAt p i .duration) × (activityAt p i .duration ≤ longestDuration)
   duration-at i h = duration-between (p .resources) (activityAt p i) (is-activity i h)
 
   pub sound : (w : Term) → Sound (projectOf p w)

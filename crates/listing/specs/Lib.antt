@@ -2,3 +2,4 @@
 pub mod Count
 pub mod Listed
 pub mod Shortest
+pub mod Words

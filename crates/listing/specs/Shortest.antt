@@ -35,7 +35,7 @@ abbrev pub NoneShorter : Plan → Term → ℕ → Starts → Type 0
 NoneShorter p t v S = (u : ℕ) (R : Starts) → FeasibleIn p t u R → makespanIn p t u R < makespanIn p t v S → ⊥
 
 pub record Shortest (p : Plan) (t : Term) (variant span : ℕ) (starts : List ℕ) : Type 0 where
-  -- one of COUNT's pairs, with the mark from N to 23
+  -- one of COUNT's pairs, with the mark from N on
   pub one-of : List·Memᴰ (variant ∷ take (length (p .activities)) starts) (pairs p t)
   pub marked : starts ≡ take (length (p .activities)) starts ++ replicate (places - length (p .activities)) mark
   pub its-own : span ≡ makespanIn p t variant (startsOf starts)

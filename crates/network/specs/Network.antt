@@ -5,8 +5,9 @@ use mathlib.Core.Bool.{true, false}
 use mathlib.Core.List.{List}
 use mathlib.Core.Path.{_≡_}
 use lib.ListN.{getD, take}
+use Rattle.plan.specs.Limits.{longestDuration}
 use Rattle.sets.specs.Sets.{most, has}
-use Rattle.scan.proofs.Model.{devices, longestDuration}
+use Rattle.scan.proofs.Model.{devices}
 
 -- 16 times the duration plus the resource.
 abbrev pub packedAt : List ℕ → ℕ → ℕ

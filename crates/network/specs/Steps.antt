@@ -5,7 +5,8 @@ use mathlib.Core.List.{List}
 use mathlib.Core.Path.{_≡_}
 use lib.Bits.{bitOr}
 use lib.ListN.{length, getD, take}
-use Rattle.scan.proofs.Model.{devices, longestDuration}
+use Rattle.plan.specs.Limits.{longestDuration}
+use Rattle.scan.proofs.Model.{devices}
 use Rattle.sets.specs.Sets.{most, has}
 use Rattle.network.specs.Network.{packedAt, predsAt, nextAt, Linked}
 

@@ -1,6 +1,7 @@
 // The activities of one variant as the search reads them, in one table of words.
 use members::after_lowest;
 use members::lowest;
+use plan::MOST_ACTS;
 ghost use mathlib.Core.Path.{_≡_};
 ghost use Prim.Native.Nat.{_^_, _<_};
 ghost use lib.ListN.{length};
@@ -24,9 +25,9 @@ pub const ACTS: usize = 130;
 
 // The columns of work and of predecessors.
 fn filled(
-    durations: &[u16; 24],
-    resources: &[u16; 24],
-    preds: &[u32; 24],
+    durations: &[u16; MOST_ACTS],
+    resources: &[u16; MOST_ACTS],
+    preds: &[u32; MOST_ACTS],
     acts: usize,
 ) -> [u32; 131]
     requires { ⌜ Filling (now durations) (now resources) acts ⌝ }
@@ -87,9 +88,9 @@ fn link_all(table: &mut [u32; 131], acts: usize)
 
 // The table of a variant of the first `acts` activities.
 pub fn network(
-    durations: &[u16; 24],
-    resources: &[u16; 24],
-    preds: &[u32; 24],
+    durations: &[u16; MOST_ACTS],
+    resources: &[u16; MOST_ACTS],
+    preds: &[u32; MOST_ACTS],
     acts: usize,
     variant: u64,
     cap: u64,

@@ -5,6 +5,7 @@ use mathlib.Core.Bool.{true}
 use mathlib.Core.List.{List}
 use mathlib.Core.Option.{some}
 use lib.ListN.{take, getD}
+use Rattle.plan.specs.Limits.{mostNodes}
 use Rattle.plan.specs.Plan.{nodesOf, isNode, every}
 use Rattle.sets.specs.Sets.{most, has}
 use Rattle.term.specs.Term.{Term, termOf}
@@ -14,7 +15,7 @@ use Rattle.order.specs.declared.Order.{Order}
 
 -- The tables hold that many nodes, each with its number in range, and they are one whole term.
 pub record OneTerm (letter number : List ℕ) (nodes : ℕ) : Type 0 where
-  pub held : nodes ≤ 64
+  pub held : nodes ≤ mostNodes
   pub ranged : every (isNode most) (nodesOf (take nodes letter) (take nodes number)) ≡ true
   pub term : Term
   pub read : termOf (nodesOf (take nodes letter) (take nodes number)) ≡ some term

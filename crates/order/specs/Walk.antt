@@ -32,7 +32,7 @@ pub record ForestAt (letter number : List ℕ) (at left : ℕ) : Type 0 where
   pub begins : nodesOfAll children ++ rest ≡ drop at (nodesOf letter number)
   pub ranged : every (isNode most) (nodesOfAll children) ≡ true
 
--- The sets are sets of the 24 activities.
+-- The sets are sets of `most` activities.
 pub record Low (before : ℕ) (preds : List ℕ) : Type 0 where
   pub outer : before < 2 ^ most
   pub each : (j : ℕ) → getD preds j 0 < 2 ^ most

@@ -7,18 +7,20 @@ ghost use Rattle.term.specs.Variants.{activities};
 ghost use Rattle.variant.specs.Precedence.{precedes};
 ghost use Rattle.order.specs.Order.{OneTerm, Ordered};
 ghost use Rattle.order.specs.Walk.{afterOf, TermAt, ForestAt, Low, Joins, Walked, WalkedAll};
+use plan::MOST_ACTS;
+use plan::MOST_NODES;
 
-// The activities of a term, and for each of 24 activities the set of those before it.
+// The activities of a term, and for each activity number the set of those before it.
 pub struct Order {
     pub present: u32,
-    pub preds: [u32; 24],
+    pub preds: [u32; MOST_ACTS],
 }
 
 // What a reader found: the node after what it read, its activities, and the sets of those before each activity so far.
 struct Walk {
     next: usize,
     set: u32,
-    preds: [u32; 24],
+    preds: [u32; MOST_ACTS],
 }
 
 // What stands before the children after a child.
@@ -33,7 +35,7 @@ fn after(before: u32, child: u32, in_sequence: bool) -> u32
 }
 
 // The walk of one activity, whose node stands before `next`.
-fn activity(i: usize, next: usize, before: u32, preds: [u32; 24]) -> Walk
+fn activity(i: usize, next: usize, before: u32, preds: [u32; MOST_ACTS]) -> Walk
     requires { ⌜ (i < most) × Low before preds ⌝ }
     ensures { λ r. ⌜ Joins (activities (act i)) (precedes (act i)) next before preds r ⌝ }
 {
@@ -47,7 +49,7 @@ fn activity(i: usize, next: usize, before: u32, preds: [u32; 24]) -> Walk
 }
 
 // The term that begins at a node.
-fn term(letter: &[u8], number: &[u8], at: usize, before: u32, preds: [u32; 24]) -> Walk
+fn term(letter: &[u8], number: &[u8], at: usize, before: u32, preds: [u32; MOST_ACTS]) -> Walk
     requires { ⌜ TermAt (now letter) (now number) at × Low before preds ⌝ }
     ensures { λ r. ⌜ Walked (now (letter .entry)) (now (number .entry)) at before preds r ⌝ }
 {
@@ -67,7 +69,7 @@ fn children(
     left: usize,
     before: u32,
     in_sequence: bool,
-    preds: [u32; 24],
+    preds: [u32; MOST_ACTS],
 ) -> Walk
     requires { ⌜ ForestAt (now letter) (now number) at left × Low before preds ⌝ }
     ensures { λ r. ⌜ WalkedAll (now (letter .entry)) (now (number .entry)) at left before in_sequence preds r ⌝ }
@@ -101,13 +103,13 @@ fn children(
 }
 
 // The order of the term that the first `nodes` nodes of the tables are.
-pub fn ordered(letter: &[u8; 64], number: &[u8; 64], nodes: usize) -> Order
+pub fn ordered(letter: &[u8; MOST_NODES], number: &[u8; MOST_NODES], nodes: usize) -> Order
     requires { ⌜ OneTerm (now letter) (now number) nodes ⌝ }
     ensures { λ r. ⌜ Ordered (now (letter .entry)) (now (number .entry)) nodes r ⌝ }
 {
     let letters: &[u8] = letter;
     let numbers: &[u8] = number;
-    let w = term(&letters[..nodes], &numbers[..nodes], 0, 0, [0; 24]);
+    let w = term(&letters[..nodes], &numbers[..nodes], 0, 0, [0; MOST_ACTS]);
     let preds = w.preds;
     Order {
         present: w.set,

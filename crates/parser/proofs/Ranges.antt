@@ -5,7 +5,7 @@ use mathlib.Core.Path.{_≡_, refl, ap, _∙_}
 use native.Mathlib.Omega.{arith}
 use lib.Dec.{ltb, eqb}
 use borrow.Author.Tests.{le-leb, ne-eqb}
-use Rattle.plan.specs.Limits.{between}
+use Rattle.plan.specs.Limits.{between, mostChildren}
 use Rattle.plan.specs.Plan.{seq, pll, xor, isLetter, nodeOf, isNode}
 use Rattle.parser.specs.Steps.{isValueOf}
 use Rattle.parser.proofs.Cases.{if-false}
@@ -20,10 +20,10 @@ other-node b n a s p =
 pub activity-fits : (acts b n : ℕ) → b ≡ 97 → isNode acts (nodeOf b n) ≡ ltb n acts
 activity-fits acts b n e = ap (λ (x : ℕ). isNode acts (nodeOf x n)) e
 
-pub children-fit : (acts b n : ℕ) → (b ≡ 97 → ⊥) → isNode acts (nodeOf b n) ≡ between 1 63 n
+pub children-fit : (acts b n : ℕ) → (b ≡ 97 → ⊥) → isNode acts (nodeOf b n) ≡ between 1 mostChildren n
 children-fit acts b n h = ap (isNode acts) (if-false (eqb b 97) _ _ (ne-eqb b 97 h)) ∙ one (eqb b 115) (eqb b 112)
   where
-    one : (p q : Bool) → isNode acts (elim p [ true ↦ seq n | false ↦ elim q [ true ↦ pll n | false ↦ xor n ] ]) ≡ between 1 63 n
+    one : (p q : Bool) → isNode acts (elim p [ true ↦ seq n | false ↦ elim q [ true ↦ pll n | false ↦ xor n ] ]) ≡ between 1 mostChildren n
     one true q = refl
     one false true = refl
     one false false = refl

@@ -7,7 +7,7 @@ use native.Mathlib.Omega.{arith}
 use lib.Dec.{ltb, eqb}
 use lib.ListN.{length, getD}
 use borrow.Author.Tests.{ltb-true, eqb-true, eqb-false}
-use Rattle.plan.specs.Limits.{between, isDuration, actForm, nodeForm}
+use Rattle.plan.specs.Limits.{between, mostActs, longestDuration, mostChildren, isDuration, actForm, nodeForm}
 use Rattle.plan.specs.Plan.{Activity, Node, isActivity, isNode, nodeOf}
 use Rattle.format.specs.Parse.{aLine, number, activity-of, node-of}
 use Rattle.parser.specs.declared.Line.{Line}
@@ -65,13 +65,13 @@ module _ (s : List ℕ) (before after : State) (l : Line) (ok : Bool) (judged : 
 
 -- What fits is small.
 pub activity-small : (resources resource duration : ℕ) → isActivity resources (record { resource = resource; duration = duration }) ≡ true
-    → (resource < resources) × (duration ≤ 2000)
+    → (resource < resources) × (duration ≤ longestDuration)
 activity-small resources resource duration e =
     let both = and-true (ltb resource resources) (isDuration duration) e in
-    (ltb-true resource resources (both .0), between-true 1 2000 duration (both .1) .1)
+    (ltb-true resource resources (both .0), between-true 1 longestDuration duration (both .1) .1)
 
-pub node-small : (acts letter number : ℕ) → acts ≤ 24 → isNode acts (nodeOf letter number) ≡ true → number < 64
+pub node-small : (acts letter number : ℕ) → acts ≤ mostActs → isNode acts (nodeOf letter number) ≡ true → number ≤ mostChildren
 node-small acts letter number h e =
     by-test (eqb letter 97)
     (λ t. omega (arith, ltb-true number acts (sym (activity-fits acts letter number (eqb-true letter 97 t)) ∙ e)))
-    (λ t. omega (arith, between-true 1 63 number (sym (children-fit acts letter number (eqb-false letter 97 t)) ∙ e) .1))
+    (λ t. omega (arith, between-true 1 mostChildren number (sym (children-fit acts letter number (eqb-false letter 97 t)) ∙ e) .1))

@@ -8,7 +8,18 @@ use native.Mathlib.Omega.{arith}
 use lib.Dec.{eqb, ltb}
 use lib.ListN.{length}
 use borrow.Author.Tests.{eqb-true, eqb-false, ne-eqb, le-ltb}
-use Rattle.plan.specs.Limits.{between, longest, isEdition, editionForm, resourcesForm, actsForm, nodesForm}
+use Rattle.plan.specs.Limits.{
+  between,
+  longest,
+  mostResources,
+  mostActs,
+  mostNodes,
+  isEdition,
+  editionForm,
+  resourcesForm,
+  actsForm,
+  nodesForm,
+}
 use Rattle.plan.specs.Plan.{Activity, Node, Plan, planOf}
 use Rattle.plan.specs.declared.Tables.{Tables}
 use Rattle.plan.specs.declared.Refusal.the-variants.{Length}
@@ -82,10 +93,10 @@ start = record { at = 0; line = 1; range = false }
 
 module _ (s : List ℕ) (s₁ s₂ s₃ s₄ s₅ s₆ s₇ : State) (e r n m : ℕ) (acts : List Activity) (nodes : List Node)
     (edition : Reads s start (aLine editionForm number (between 1 1)) 1 s₁ e)
-    (resources : Reads s s₁ (aLine resourcesForm number (between 1 16)) 1 s₂ r)
-    (act-count : Reads s s₂ (aLine actsForm number (between 1 24)) 1 s₃ n)
+    (resources : Reads s s₁ (aLine resourcesForm number (between 1 mostResources)) 1 s₂ r)
+    (act-count : Reads s s₂ (aLine actsForm number (between 1 mostActs)) 1 s₃ n)
     (activities : Reads s s₃ (theLines n (anActivity r)) n s₄ acts)
-    (node-count : Reads s s₄ (aLine nodesForm number (between 1 64)) 1 s₅ m)
+    (node-count : Reads s s₄ (aLine nodesForm number (between 1 mostNodes)) 1 s₅ m)
     (tree : Reads s s₅ (theLines m (aNode n)) m s₆ nodes)
     (end : Reads s s₆ theEnd 0 s₇ (tt {0})) where
   pub plan-lines : planLines 1 s ≡ outcome s s₇ (record { resources = r; activities = acts; nodes = nodes })
@@ -95,16 +106,16 @@ module _ (s : List ℕ) (s₁ s₂ s₃ s₄ s₅ s₆ s₇ : State) (e r n m : 
       subst (λ (fits : ℕ → Bool). Reads s start (aLine editionForm number fits) 1 s₁ e) (fun-ext edition-is) edition in
       ap (λ (o : Outcome (Unit {0})). bound o (λ u. planLines)) (sym (outcome-in s start tt (omega arith)))
       ∙ step s start s₁ (tt {0}) e 1 (λ _. aLine editionForm number isEdition) _ first
-      ∙ step s s₁ s₂ e r 1 (λ _. aLine resourcesForm number (between 1 16)) _ resources
-      ∙ step s s₂ s₃ r n 1 (λ _. aLine actsForm number (between 1 24)) _ act-count
+      ∙ step s s₁ s₂ e r 1 (λ _. aLine resourcesForm number (between 1 mostResources)) _ resources
+      ∙ step s s₂ s₃ r n 1 (λ _. aLine actsForm number (between 1 mostActs)) _ act-count
       ∙ step s s₃ s₄ n acts n (λ k. theLines k (anActivity r)) _ activities
-      ∙ step s s₄ s₅ acts m 1 (λ _. aLine nodesForm number (between 1 64)) _ node-count
+      ∙ step s s₄ s₅ acts m 1 (λ _. aLine nodesForm number (between 1 mostNodes)) _ node-count
       ∙ step s s₅ s₆ m nodes m (λ k. theLines k (aNode n)) _ tree
       ∙ step s s₆ s₇ nodes (tt {0}) 0 (λ _. theEnd) _ end
       ∙ returned s s₇ (tt {0}) (record { resources = r; activities = acts; nodes = nodes })
 
   pub answers : 0 < length s → length s ≤ longest → (v : Verdict) (t : Tables) → v ≡ verdictOf (outcome s s₇ (tt {0}))
-      → planOf t ≡ record { resources = r; activities = acts; nodes = nodes } → t .acts ≤ 24 → t .nodes ≤ 64
+      → planOf t ≡ record { resources = r; activities = acts; nodes = nodes } → t .acts ≤ mostActs → t .nodes ≤ mostNodes
       → Answers s (record { verdict = v; tables = t })
   answers low high v t is plan few small =
       record {

@@ -5,13 +5,26 @@ ghost use mathlib.Core.Path.{_≡_};
 ghost use mathlib.Core.List.{[], _∷_};
 ghost use mathlib.Core.Option.{none};
 ghost use lib.ListN.{length, getD, take};
-ghost use Rattle.plan.specs.Limits.{between, longest};
+ghost use Rattle.plan.specs.Limits.{between, longest, mostResources, mostActs, mostNodes};
 ghost use Rattle.plan.specs.Plan.{isLetter, isActivity, isNode, nodeOf, activitiesOf, nodesOf};
 ghost use Rattle.format.specs.Parse.{theLines, theEnd};
 ghost use Rattle.parser.specs.Answer.{Answers, verdictOf};
 ghost use Rattle.parser.specs.Steps.{stepped, scanned, isValueOf, started, seen, advance, holes, outcome, anActivity, aNode, Judged, Reads, ReadsCount};
+use plan::MOST_ACTS;
+use plan::MOST_NODES;
 use plan::Refusal;
 use plan::Tables;
+
+// Limits of the plan file in the type of a line's values.
+const RESOURCES: u32 = plan::MOST_RESOURCES as u32;
+
+const ACTS: u32 = MOST_ACTS as u32;
+
+const DURATION: u32 = plan::LONGEST_DURATION as u32;
+
+const NODES: u32 = MOST_NODES as u32;
+
+const CHILDREN: u32 = plan::MOST_CHILDREN as u32;
 
 pub enum Verdict {
     Accepted,
@@ -60,8 +73,8 @@ struct ActivityLine {
 // Lines that were read, and the state after them.
 struct ActivityTable {
     state: State,
-    resource: [u16; 24],
-    duration: [u16; 24],
+    resource: [u16; MOST_ACTS],
+    duration: [u16; MOST_ACTS],
 }
 
 struct NodeLine {
@@ -72,8 +85,8 @@ struct NodeLine {
 
 struct NodeTable {
     state: State,
-    letter: [u8; 64],
-    number: [u8; 64],
+    letter: [u8; MOST_NODES],
+    number: [u8; MOST_NODES],
 }
 
 // A position past the end.
@@ -303,14 +316,14 @@ fn is_activity(resources: u32, resource: u32, duration: u32) -> bool
     ensures { λ r. ⌜ r ≡ isActivity resources (record { resource = resource; duration = duration }) ⌝ }
 {
     if resource < resources {
-        in_range(1, 2000, duration)
+        in_range(1, DURATION, duration)
     } else {
         false
     }
 }
 
 fn read_activity(file: &[u8], state: State, resources: u32) -> ActivityLine
-    requires { ⌜ (state .line < 1000) × (resources ≤ 16) ⌝ }
+    requires { ⌜ (state .line < 1000) × (resources ≤ mostResources) ⌝ }
     ensures { λ r. ⌜ Reads (now (file .entry)) state (anActivity resources) 1 (r .state) (record { resource = r .resource; duration = r .duration }) ⌝ }
 {
     let at = state.at;
@@ -335,14 +348,14 @@ fn read_activity(file: &[u8], state: State, resources: u32) -> ActivityLine
 }
 
 fn read_activities(file: &[u8], state: State, resources: u32, acts: usize) -> ActivityTable
-    requires { ⌜ (state .line < 100) × (resources ≤ 16) × (acts ≤ 24) ⌝ }
+    requires { ⌜ (state .line < 100) × (resources ≤ mostResources) × (acts ≤ mostActs) ⌝ }
     ensures { λ r.
         ⌜ Reads (now (file .entry)) state (theLines acts (anActivity resources)) acts (r .state)
         (activitiesOf (take acts (r .resource)) (take acts (r .duration))) ⌝ }
 {
     let mut last = state;
-    let mut resource = [0u16; 24];
-    let mut duration = [0u16; 24];
+    let mut resource = [0u16; MOST_ACTS];
+    let mut duration = [0u16; MOST_ACTS];
     for i in 0..acts {
         let act = read_activity(file, last, resources);
         let next = act.state;
@@ -363,7 +376,7 @@ fn is_node(acts: u32, letter: u32, number: u32) -> bool
     if letter == 97 {
         number < acts
     } else {
-        in_range(1, 63, number)
+        in_range(1, CHILDREN, number)
     }
 }
 
@@ -380,7 +393,7 @@ fn letter_byte(letter: u32) -> u8
 }
 
 fn read_node(file: &[u8], state: State, acts: u32) -> NodeLine
-    requires { ⌜ (state .line < 1000) × (acts ≤ 24) ⌝ }
+    requires { ⌜ (state .line < 1000) × (acts ≤ mostActs) ⌝ }
     ensures { λ r. ⌜ Reads (now (file .entry)) state (aNode acts) 1 (r .state) (nodeOf (r .letter) (r .number)) ⌝ }
 {
     let at = state.at;
@@ -405,14 +418,14 @@ fn read_node(file: &[u8], state: State, acts: u32) -> NodeLine
 }
 
 fn read_nodes(file: &[u8], state: State, acts: u32, nodes: usize) -> NodeTable
-    requires { ⌜ (state .line < 100) × (acts ≤ 24) × (nodes ≤ 64) ⌝ }
+    requires { ⌜ (state .line < 100) × (acts ≤ mostActs) × (nodes ≤ mostNodes) ⌝ }
     ensures { λ r.
         ⌜ Reads (now (file .entry)) state (theLines nodes (aNode acts)) nodes (r .state)
         (nodesOf (take nodes (r .letter)) (take nodes (r .number))) ⌝ }
 {
     let mut last = state;
-    let mut letter = [0u8; 64];
-    let mut number = [0u8; 64];
+    let mut letter = [0u8; MOST_NODES];
+    let mut number = [0u8; MOST_NODES];
     for i in 0..nodes {
         let node = read_node(file, last, acts);
         let next = node.state;
@@ -465,11 +478,11 @@ fn read_plan(file: &[u8]) -> Parsed
         range: false,
     };
     let edition = read_count(file, start, b"plan=#\n", 1, 1);
-    let resources = read_count(file, edition.state, b"res=#\n", 1, 16);
-    let acts = read_count(file, resources.state, b"acts=#\n", 1, 24);
+    let resources = read_count(file, edition.state, b"res=#\n", 1, RESOURCES);
+    let acts = read_count(file, resources.state, b"acts=#\n", 1, ACTS);
     let count = acts.value as usize;
     let table = read_activities(file, acts.state, resources.value, count);
-    let nodes = read_count(file, table.state, b"nodes=#\n", 1, 64);
+    let nodes = read_count(file, table.state, b"nodes=#\n", 1, NODES);
     let size = nodes.value as usize;
     let tree = read_nodes(file, nodes.state, acts.value, size);
     let last = read_end(file, tree.state);
@@ -507,7 +520,7 @@ pub fn parse_file(file: &[u8]) -> Parsed
     if size == 0 {
         return refused(Refusal::Length);
     }
-    if size > 959 {
+    if size > plan::LONGEST {
         return refused(Refusal::Length);
     }
     read_plan(file)

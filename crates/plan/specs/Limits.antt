@@ -1,5 +1,5 @@
 -- The limits and the line forms of the plan file, in the edition in force. A later edition changes this file.
-use Prim.Native.Nat.{ℕ}
+use Prim.Native.Nat.{ℕ, _*_}
 use Prim.Native.Char.{Char, code}
 use Prim.Native.String.{String}
 use mathlib.Core.Bool.{Bool, _&&_}
@@ -25,24 +25,45 @@ mostDigits = 5
 abbrev pub mostVariants : ℕ
 mostVariants = 4096
 
+-- A resource is a device in the paper's words.
+abbrev pub mostResources : ℕ
+mostResources = 16
+
+abbrev pub mostActs : ℕ
+mostActs = 24
+
+-- In ticks.
+abbrev pub longestDuration : ℕ
+longestDuration = 2000
+
+-- No active session ends later.
+abbrev pub latestPossible : ℕ
+latestPossible = mostActs * longestDuration
+
+abbrev pub mostNodes : ℕ
+mostNodes = 64
+
+-- The children of one group.
+abbrev pub mostChildren : ℕ
+mostChildren = 63
+
 abbrev pub isEdition : ℕ → Bool
 isEdition n = eqb n 1
 
--- A resource is a device in the paper's words.
 abbrev pub isResourceCount : ℕ → Bool
-isResourceCount n = between 1 16 n
+isResourceCount n = between 1 mostResources n
 
 abbrev pub isActCount : ℕ → Bool
-isActCount n = between 1 24 n
+isActCount n = between 1 mostActs n
 
 abbrev pub isDuration : ℕ → Bool
-isDuration n = between 1 2000 n
+isDuration n = between 1 longestDuration n
 
 abbrev pub isNodeCount : ℕ → Bool
-isNodeCount n = between 1 64 n
+isNodeCount n = between 1 mostNodes n
 
 abbrev pub isChildCount : ℕ → Bool
-isChildCount n = between 1 63 n
+isChildCount n = between 1 mostChildren n
 
 -- The form of each kind of line: `#` stands for a value and `@` for a node's letter.
 abbrev pub editionForm : List ℕ

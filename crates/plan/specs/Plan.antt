@@ -5,7 +5,7 @@ use mathlib.Core.List.{List, [], _∷_}
 use mathlib.Core.Path.{_≡_}
 use lib.Dec.{leb, ltb, eqb}
 use lib.ListN.{length, take, replicate}
-use Rattle.plan.specs.Limits.{isResourceCount, isActCount, isDuration, isNodeCount, isChildCount}
+use Rattle.plan.specs.Limits.{mostActs, mostNodes, isResourceCount, isActCount, isDuration, isNodeCount, isChildCount}
 use Rattle.plan.specs.declared.Tables.{Tables}
 
 -- `act=r,d`
@@ -90,16 +90,16 @@ noTables =
     record {
       resources = 0;
       acts = 0;
-      resource = replicate 24 0;
-      duration = replicate 24 0;
+      resource = replicate mostActs 0;
+      duration = replicate mostActs 0;
       nodes = 0;
-      letter = replicate 64 0;
-      number = replicate 64 0;
+      letter = replicate mostNodes 0;
+      number = replicate mostNodes 0;
     }
 
 -- The arrays of the tables have their lengths.
 pub record Sized (t : Tables) : Type 0 where
-  pub resource : length (t .resource) ≡ 24
-  pub duration : length (t .duration) ≡ 24
-  pub letter : length (t .letter) ≡ 64
-  pub number : length (t .number) ≡ 64
+  pub resource : length (t .resource) ≡ mostActs
+  pub duration : length (t .duration) ≡ mostActs
+  pub letter : length (t .letter) ≡ mostNodes
+  pub number : length (t .number) ≡ mostNodes

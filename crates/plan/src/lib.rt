@@ -3,6 +3,21 @@ ghost use mathlib.Core.Path.{_≡_};
 ghost use Rattle.plan.specs.Refusals.{numberOf, figureOf};
 ghost use Rattle.plan.specs.Plan.{noTables};
 
+// The limits of the plan file, as in `specs/Limits.antt`, each in the type of what it bounds.
+pub const MOST_RESOURCES: u16 = 16;
+
+pub const MOST_ACTS: usize = 24;
+
+pub const LONGEST_DURATION: u16 = 2000;
+
+pub const MOST_NODES: usize = 64;
+
+pub const MOST_CHILDREN: u8 = 63;
+
+pub const LONGEST: usize = 959;
+
+pub const MOST_VARIANTS: u32 = 4096;
+
 // Why a call turns its input back. `numberOf` and `figureOf` give the paper's number and figure of each case.
 pub enum Refusal {
     Length,
@@ -53,18 +68,14 @@ pub fn figure(r: Refusal) -> u64
 pub struct Tables {
     pub resources: u16,
     pub acts: usize,
-    pub resource: [u16; 24],
-    pub duration: [u16; 24],
+    pub resource: [u16; MOST_ACTS],
+    pub duration: [u16; MOST_ACTS],
     pub nodes: usize,
-    pub letter: [u8; 64],
-    pub number: [u8; 64],
+    pub letter: [u8; MOST_NODES],
+    pub number: [u8; MOST_NODES],
 }
 
 impl Tables {
-    pub const ACTS: usize = 24;
-
-    pub const NODES: usize = 64;
-
     // The tables of no plan: every count and every entry 0.
     pub fn empty() -> Tables
         ensures { λ r. ⌜ r ≡ noTables ⌝ }
@@ -72,11 +83,11 @@ impl Tables {
         Tables {
             resources: 0,
             acts: 0,
-            resource: [0; 24],
-            duration: [0; 24],
+            resource: [0; MOST_ACTS],
+            duration: [0; MOST_ACTS],
             nodes: 0,
-            letter: [0; 64],
-            number: [0; 64],
+            letter: [0; MOST_NODES],
+            number: [0; MOST_NODES],
         }
     }
 }

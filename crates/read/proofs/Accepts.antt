@@ -1,6 +1,6 @@
 -- The definition is the format: the text of every valid plan is accepted as that plan, and what is accepted is the text
--- of a valid plan. No accepted file is longer than 959 bytes, and 959 is reached.
-use Prim.Native.Nat.{ℕ, zero, suc, _≤_}
+-- of a valid plan. No accepted file is longer than `longest`, and one is as long.
+use Prim.Native.Nat.{ℕ, zero, suc, _-_, _≤_}
 use native.Mathlib.Omega.{arith}
 use mathlib.Core.Bool.{Bool, true, false}
 use mathlib.Core.List.{List}
@@ -9,7 +9,7 @@ use mathlib.Core.Path.{_≡_, refl, sym, ap, _∙_, subst}
 use borrow.Author.Tests.{ltb-false, le-ltb}
 use lib.Dec.{ltb}
 use lib.ListN.{length}
-use Rattle.plan.specs.Limits.{mostVariants, longest}
+use Rattle.plan.specs.Limits.{longest, mostVariants, mostActs, mostChildren}
 use Rattle.plan.specs.Plan.{Plan, isPlan}
 use Rattle.plan.specs.declared.Refusal.{Refusal}
 use Rattle.format.specs.Parse
@@ -74,9 +74,9 @@ accepted-short s p t e =
     let v = accepted-valid s p t e in
     subst (λ (x : List ℕ). length x ≤ longest) (sym (v .1)) (text-short p (v .0 .ranges))
 
--- The longest plan is an x over one activity, 63 times.
+-- The longest plan is an x over one activity, as many times as a group may have children.
 abbrev longestTerm : Term
-longestTerm = xor (many 63 (act 23))
+longestTerm = xor (many mostChildren (act (mostActs - 1)))
 
 longest-valid : Valid longestPlan longestTerm
 unfolding termOf forest place size firsts others twice variants some-of repeats activities member variantCount

@@ -16,7 +16,8 @@ use Rattle.format.proofs.Format.{parse-text}
 use Rattle.format.proofs.Plans.{plan-sound}
 use Rattle.term.specs.Term.{Term, termOf}
 use Rattle.term.specs.Variants.{variantCount, twice}
-use Rattle.term.proofs.Model.{count, clash}
+use Rattle.term.specs.Clash.{clash}
+use Rattle.term.proofs.Model.{count}
 use Rattle.term.proofs.Reading.{full-termOf}
 use Rattle.term.proofs.Counting.{variantCount-count}
 use Rattle.term.proofs.Twice.{twice-clash}

@@ -4,6 +4,7 @@ use mathlib.Core.Bool.{true}
 use mathlib.Core.Path.{_≡_}
 use native.Mathlib.Omega.{arith}
 use lib.ListN.{length}
+use Rattle.plan.specs.Limits.{mostActs}
 use Rattle.plan.specs.Plan.{Plan, planOf, isPlan, isNode, every}
 use Rattle.plan.specs.declared.Tables.{Tables}
 use Rattle.format.proofs.Plans.{plan-sound}
@@ -11,8 +12,8 @@ use Rattle.format.proofs.Tests.{between-facts}
 use Rattle.survey.proofs.Tables.{every-more}
 use Rattle.read.specs.Answer.{Ranged}
 
-pub nodes-ranged : {tables : Tables} → Ranged tables → every (isNode 24) (planOf tables .nodes) ≡ true
+pub nodes-ranged : {tables : Tables} → Ranged tables → every (isNode mostActs) (planOf tables .nodes) ≡ true
 nodes-ranged {tables} r =
     let p = planOf tables in
     let s = plan-sound p (r .ranges) in
-    every-more (length (p .activities)) 24 (between-facts 1 24 (length (p .activities)) (s .acts) .1) (p .nodes) (s .nodes)
+    every-more (length (p .activities)) mostActs (between-facts 1 mostActs (length (p .activities)) (s .acts) .1) (p .nodes) (s .nodes)

@@ -5,6 +5,7 @@ use mathlib.Core.List.{List, [], _∷_}
 use mathlib.Core.Path.{_≡_, refl, sym, ap, _∙_}
 use lib.ListN.{length, take}
 use lib.Seq.{length-take-le}
+use Rattle.plan.specs.Limits.{mostActs, mostNodes}
 use Rattle.plan.specs.Plan.{planOf, activitiesOf, nodesOf}
 use Rattle.plan.specs.declared.Refusal.{Refusal}
 use Rattle.plan.specs.declared.Tables.{Tables}
@@ -31,14 +32,14 @@ module _ (t : Tables) (r : Ranged t) where
   -- The plan has as many activities and nodes as its tables say.
   pub acts-are : length (planOf t .activities) ≡ t .acts
   acts-are =
-      let a = taken (t .acts) 24 (t .resource) (r .acts) (r .sized .resource) in
-      let b = taken (t .acts) 24 (t .duration) (r .acts) (r .sized .duration) in
+      let a = taken (t .acts) mostActs (t .resource) (r .acts) (r .sized .resource) in
+      let b = taken (t .acts) mostActs (t .duration) (r .acts) (r .sized .duration) in
       activities-length (take (t .acts) (t .resource)) (take (t .acts) (t .duration)) (omega arith) ∙ a
 
   pub nodes-are : length (planOf t .nodes) ≡ t .nodes
   nodes-are =
-      let a = taken (t .nodes) 64 (t .letter) (r .nodes) (r .sized .letter) in
-      let b = taken (t .nodes) 64 (t .number) (r .nodes) (r .sized .number) in
+      let a = taken (t .nodes) mostNodes (t .letter) (r .nodes) (r .sized .letter) in
+      let b = taken (t .nodes) mostNodes (t .number) (r .nodes) (r .sized .number) in
       nodes-length (take (t .nodes) (t .letter)) (take (t .nodes) (t .number)) (omega arith) ∙ a
 
 pub reads-plan : (s : List ℕ) (j : Judged) → Accepts s j → Read (j .tables .acts) (j .tables .nodes) (j .variants) ≡ readOf s

@@ -6,7 +6,7 @@ use Prim.Native.Nat.{ℕ, _≤_}
 use mathlib.Core.Bool.{Bool, true, false}
 use lib.Dec.{ltb}
 use lib.ListN.{length}
-use Rattle.plan.specs.Limits.{mostVariants}
+use Rattle.plan.specs.Limits.{mostVariants, mostActs, mostNodes}
 use Rattle.plan.specs.Plan.{Plan, planOf, isPlan, Sized}
 use Rattle.plan.specs.declared.Tables.{Tables}
 use Rattle.plan.specs.declared.Refusal.{Refusal}
@@ -28,8 +28,8 @@ readOf s = answerTo (judge s)
 
 -- The tables hold a plan whose values are in range.
 pub record Ranged (tables : Tables) : Type 0 where
-  pub acts : tables .acts ≤ 24
-  pub nodes : tables .nodes ≤ 64
+  pub acts : tables .acts ≤ mostActs
+  pub nodes : tables .nodes ≤ mostNodes
   pub ranges : isPlan (planOf tables) ≡ true
   pub sized : Sized tables
 

@@ -44,7 +44,7 @@ fn judge_term(tables: Tables) -> Judged
             variants: 0,
         };
     }
-    if 4096 < s.variants {
+    if plan::MOST_VARIANTS < s.variants {
         return Judged {
             verdict: Verdict::Refused(Refusal::TooManyVariants),
             tables,

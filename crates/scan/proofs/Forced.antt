@@ -12,12 +12,29 @@ use lib.Dec.{eqb, ltb}
 use lib.ListN.{length, getD, set}
 use lib.Seq.{getD-set-same, getD-set-other, set-out, set-comm}
 use borrow.Author.Tests.{eq-eqb, ne-eqb, eqb-true, lt-ltb, not-true}
+use Rattle.plan.specs.Limits.{longestDuration}
 use Rattle.bools.proofs.Bools.{by-bool, true-not-false, both, and-left, and-right, cond-true, cond-false}
 use Rattle.schedule.proofs.Below.{cond-le, max-least, max-eq}
 use Rattle.schedule.specs.Sessions.{gather}
 use Rattle.sets.proofs.Laws.{has-none, has-without, meet-not, meet-none, meet-of, size-without}
 use Rattle.sets.specs.Sets.{most, has, meet, size}
-use Rattle.scan.proofs.Model.{Problem, Node, devices, longestDuration, never, leastBelow, ready, earliest, finish, isOpen, keyOf, key, isChoice, freeze, branches, leaves}
+use Rattle.scan.proofs.Model.{
+  Problem,
+  Node,
+  devices,
+  never,
+  leastBelow,
+  ready,
+  earliest,
+  finish,
+  isOpen,
+  keyOf,
+  key,
+  isChoice,
+  freeze,
+  branches,
+  leaves,
+}
 
 -- ---- leaves and branches
 
@@ -216,7 +233,7 @@ module _ (p : Problem) (s : Node) (bounded : Bounded p s) (apart : Apart p (s .l
   unfolding allBelow Apart finish freeze
   first-choice i l o e =
       let at : key p s ≡ 16 * finish p s i + p .resource i = e ∙ key-of p s bounded i l o in
-      let small : p .resource i < 16 = bounded .known i in
+      let small : p .resource i < devices = bounded .known i in
       let on : p .resource i ≡ key p s % devices = omega arith in
       let there : has (s .left) i ≡ true = open-left p s i o in
       inner p s (size (s .left) most) (λ z. true-not-false there (ap (λ (x : ℕ). has x i) z ∙ has-none i))

@@ -5,6 +5,7 @@ use mathlib.Core.Bool.{Bool, true, false, not, cond, _&&_}
 use mathlib.Core.List.{List, [], _∷_, map}
 use lib.Dec.{ltb, eqb}
 use lib.ListN.{getD, set, replicate}
+use Rattle.plan.specs.Limits.{mostResources}
 use Rattle.schedule.specs.Below.{maxBelow}
 use Rattle.schedule.specs.Sessions.{gather}
 use Rattle.sets.specs.Sets.{most, has, meet, size}
@@ -28,11 +29,7 @@ abbrev pub width : ℕ
 width = 32
 
 abbrev pub devices : ℕ
-devices = 16
-
--- No activity lasts longer.
-abbrev pub longestDuration : ℕ
-longestDuration = 2000
+devices = mostResources
 
 -- More than any end, and more than any key.
 abbrev pub never : ℕ

@@ -6,6 +6,7 @@ use mathlib.Core.Path.{_≡_, sym, ap, _∙_}
 use mathlib.Core.List.{List, _++_, map, List·Memᴰ, Memᴰ·map, Perm}
 use lib.ListN.{length, getD, take, drop, replicate, length-drop, getD-replicate, length-replicate, take-append-drop}
 use lib.Seq.{ext-getD, getD-drop}
+use Rattle.plan.specs.Limits.{latestPossible}
 use Rattle.plan.specs.Plan.{Plan}
 use Rattle.term.specs.Term.{Term}
 use Rattle.timetable.specs.Mark.{mark, places}
@@ -91,7 +92,7 @@ module _ (p : Plan) (t : Term) (v : ℕ) (c : Chosen p t v) (q : Problem) (prese
     variant-early =
         omega (arith, variant-makespan, work-bound P (startsOf (starts q places ends)) (benched .sound) (benched .unfixed) (benched .gapless) variant-active)
 
-    pub variant-latest : latest ends ≤ 48000
+    pub variant-latest : latest ends ≤ latestPossible
     variant-latest = omega (arith, variant-early, short-project p (variantAt t v) (c .valid))
 
     -- From the number of activities on there is the mark.

@@ -6,4 +6,5 @@ pub mod Found
 pub mod Pairs
 pub mod Rows
 pub mod Shortest
+pub mod Meaning
 pub mod Answers

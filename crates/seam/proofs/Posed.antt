@@ -1,4 +1,4 @@
--- The search can be posed for every variant of a valid plan: every set of activities below 24 is a number.
+-- The search can be posed for every variant of a valid plan: every set of activities below `most` is a number.
 use Prim.Native.Nat.{ℕ, zero, suc, _+_, _*_, _%_, _^_, _<_}
 use native.Mathlib.Nat.{not-suc-le-zero, pow-suc}
 use native.Mathlib.Decide.{decLt}

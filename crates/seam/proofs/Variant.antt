@@ -5,6 +5,7 @@ use native.Mathlib.Omega.{arith}
 use mathlib.Core.Bool.{true, cond}
 use mathlib.Core.Path.{_≡_, sym, ap, _∙_}
 use lib.ListN.{length}
+use Rattle.plan.specs.Limits.{longestDuration, latestPossible}
 use Rattle.plan.specs.Plan.{Plan, isPlan}
 use Rattle.term.specs.Term.{Term}
 use Rattle.term.specs.Variants.{variantCount, activities, member}
@@ -50,8 +51,8 @@ poses-dissolved p w q present poses =
 pub chosen : (p : Plan) (t : Term) (v : ℕ) → Valid p t → v < variantCount t → Chosen p t v
 chosen p t v valid l = record { valid = valid .ranges; reads = valid .term; once = valid .once; below = l }
 
--- At most 24 activities of at most 2000 ticks each.
-pub short-project : (p : Plan) (w : Term) → isPlan p ≡ true → work (projectOf p w) ≤ 48000
+-- At most `mostActs` activities of at most `longestDuration` ticks each.
+pub short-project : (p : Plan) (w : Term) → isPlan p ≡ true → work (projectOf p w) ≤ latestPossible
 unfolding work projectOf
 short-project p w valid =
     omega (
@@ -60,7 +61,7 @@ short-project p w valid =
       sum-const
           (length (p .activities))
           (λ i. cond (member i (activities w)) (activityAt p i .duration) 0)
-          2000
+          longestDuration
           (λ i l.
           by-bool
           (member i (activities w))

@@ -6,11 +6,12 @@ use mathlib.Core.List.{List}
 use mathlib.Core.Path.{_≡_, sym, ap, ap₂, _∙_}
 use lib.Dec.{eqb, ltb}
 use lib.ListN.{getD}
+use Rattle.plan.specs.Limits.{longestDuration}
 use Rattle.bools.proofs.Bools.{by-bool, true-not-false, and-left, and-right, cond-true, cond-false}
 use Rattle.schedule.proofs.Below.{cond-le, max-least}
 use Rattle.sets.proofs.Laws.{has-none, meet-not, size-without}
 use Rattle.sets.specs.Sets.{most, has, meet, size}
-use Rattle.scan.proofs.Model.{Node, devices, never, ready, earliest, finish, isOpen, keyOf, key, isChoice, longestDuration}
+use Rattle.scan.proofs.Model.{Node, devices, never, ready, earliest, finish, isOpen, keyOf, key, isChoice}
 use Rattle.network.specs.Network.{packedAt, predsAt, nextAt}
 use Rattle.search.specs.Tables.{problemOf}
 use Rattle.choices.specs.Work.{endAt, soonAt, keyAt, leastAt, choiceAt, Timed, opens}

@@ -9,11 +9,12 @@ use mathlib.Core.Logic.{_≢_, by-cases}
 use mathlib.Core.Path.{_≡_, sym, ap, _∙_}
 use lib.ListN.{length, getD, length-set}
 use lib.Seq.{getD-set-same, getD-set-other}
+use Rattle.plan.specs.Limits.{longestDuration}
 use Rattle.bools.proofs.Bools.{by-bool, true-not-false, same-bool, both, and-left, and-right, cond-true, cond-false}
 use Rattle.schedule.proofs.Below.{max-term, max-eq}
 use Rattle.sets.proofs.Laws.{meet-at, meet-not, meet-none}
 use Rattle.sets.specs.Sets.{most, has, meet, size}
-use Rattle.scan.proofs.Model.{Node, width, devices, ready, earliest, finish, isOpen, freeze, longestDuration}
+use Rattle.scan.proofs.Model.{Node, width, devices, ready, earliest, finish, isOpen, freeze}
 use Rattle.network.specs.Network.{packedAt, predsAt, nextAt, nearAt}
 use Rattle.search.specs.Tables.{problemOf}
 use Rattle.search.specs.Seen.{latestEnd}

@@ -8,11 +8,12 @@ use mathlib.Core.Logic.{by-cases}
 use mathlib.Core.Path.{_≡_, refl, sym, ap, _∙_, subst, fun-ext}
 use lib.ListN.{getD, take, drop, replicate, length-take, List·getD-eq-default}
 use lib.Seq.{getD-take}
+use Rattle.plan.specs.Limits.{longestDuration}
 use Rattle.schedule.specs.Below.{maxBelow}
 use Rattle.schedule.proofs.Below.{max-least}
 use Rattle.sets.proofs.Laws.{has-none, has-above, size-le}
 use Rattle.sets.specs.Sets.{most, has, meet, size}
-use Rattle.scan.proofs.Model.{Problem, devices, width, root, scanned, ready, isOpen, longestDuration}
+use Rattle.scan.proofs.Model.{Problem, devices, width, root, scanned, ready, isOpen}
 use Rattle.network.specs.Network.{packedAt, predsAt, Network, Tabled}
 use Rattle.search.specs.Tables.{tablesOf, problemOf, Asked}
 use Rattle.search.specs.Seen.{Setting, settingOf, settingIn, tallyOf, kept, keptOf, latestEnd, allSeen, Searched}

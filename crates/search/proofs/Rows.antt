@@ -111,9 +111,9 @@ unfolding rowOf
 row-length p q ends = ap suc (length-starts p (q .acts) ends) ∙ sym (add-one (q .acts))
 
 -- Where the next row starts.
-pub row-at : (count acts : ℕ) → count < 2 ^ 32 → acts ≤ places → count * (acts + 1) ≤ 2 ^ 32 * 25
+pub row-at : (count acts : ℕ) → count < 2 ^ 32 → acts ≤ places → count * (acts + 1) ≤ 2 ^ 32 * (places + 1)
 row-at count acts h l =
-    let few : acts + 1 ≤ 25 = omega arith in
+    let few : acts + 1 ≤ places + 1 = omega arith in
     le-trans (mul-le-mul-right (acts + 1) (le-of-lt h)) (mul-le-mul-left (2 ^ 32) few)
 
 -- ---- the tally
@@ -133,15 +133,15 @@ tally-set cells k x h t =
     }
 
 -- The starts s behind the first three cells.
-pub all-stored : (cells s cells′ : List ℕ) (n : ℕ) → n ≡ places → length cells ≡ 27 → length s ≡ places → cells′ ≡ paste cells 3 s n
-    → cells′ ≡ take 3 cells ++ s
+pub all-stored : (cells s cells′ : List ℕ) (n : ℕ) → n ≡ places → length cells ≡ 3 + places → length s ≡ places
+    → cells′ ≡ paste cells 3 s n → cells′ ≡ take 3 cells ++ s
 all-stored cells s cells′ n all e f back =
     back
     ∙ ap (paste cells 3 s) all
     ∙ ap₂ (λ (x y : List ℕ). take 3 cells ++ x ++ y) (take-all places s (omega arith)) (drop-of-length-le cells {i = 3 + places} (omega arith))
     ∙ append-nil (take 3 cells ++ s)
 
-pub tally-stored : (cells s cells′ : List ℕ) → length cells ≡ 27 → length s ≡ places → ((i : ℕ) → i < places → getD s i 0 < 2 ^ 16)
+pub tally-stored : (cells s cells′ : List ℕ) → length cells ≡ 3 + places → length s ≡ places → ((i : ℕ) → i < places → getD s i 0 < 2 ^ 16)
     → cells′ ≡ take 3 cells ++ s → IsTally cells′
 tally-stored cells s cells′ e f low back =
     let front : length (take 3 cells) ≡ 3 = length-take-le 3 cells (omega arith) in

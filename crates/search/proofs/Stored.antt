@@ -13,7 +13,7 @@ use borrow.Author.Tests.{eq-eqb, ne-eqb}
 use Rattle.bools.proofs.Bools.{true-not-false, and-left}
 use Rattle.sets.proofs.Laws.{has-without}
 use Rattle.sets.specs.Sets.{most, has, size}
-use Rattle.scan.proofs.Model.{Problem, Node, devices, finish, freeze, longestDuration}
+use Rattle.scan.proofs.Model.{Problem, Node, devices, finish, freeze}
 use Rattle.network.specs.Network.{packedAt}
 use Rattle.search.specs.Tables.{problemOf}
 use Rattle.choices.specs.Work.{endAt, readyAt, freeAt, Timed, opens, Released}

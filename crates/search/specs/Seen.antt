@@ -35,7 +35,7 @@ kept tally area = record { tally = tally; area = area }
 
 -- The working cells hold the count, the least latest end so far, its variant and its starts.
 pub record IsTally (cells : List ℕ) : Type 0 where
-  pub size : length cells ≡ 27
+  pub size : length cells ≡ 3 + places
   pub starts : (i : ℕ) → i < places → getD cells (3 + i) 0 < 2 ^ 16
 
 abbrev pub tallyOf : List ℕ → Tally

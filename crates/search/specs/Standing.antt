@@ -4,9 +4,10 @@ use mathlib.Core.Bool.{true, false}
 use mathlib.Core.List.{List}
 use mathlib.Core.Path.{_≡_}
 use lib.ListN.{length, getD}
+use Rattle.plan.specs.Limits.{longestDuration}
 use Rattle.sets.specs.Sets.{most, has, size}
 use Rattle.timetable.specs.Mark.{places}
-use Rattle.scan.proofs.Model.{Node, width, devices, ready, isOpen, longestDuration}
+use Rattle.scan.proofs.Model.{Node, width, devices, ready, isOpen}
 use Rattle.network.specs.Network.{packedAt, predsAt, capOf, variantOf, actsOf, Linked}
 use Rattle.choices.specs.Work.{endAt, readyAt, freeAt, Timed}
 use Rattle.search.specs.Tables.{problemOf}

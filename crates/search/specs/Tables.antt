@@ -4,8 +4,9 @@ use mathlib.Core.Bool.{true, false}
 use mathlib.Core.List.{List}
 use mathlib.Core.Path.{_≡_}
 use lib.ListN.{getD, take, drop}
+use Rattle.plan.specs.Limits.{longestDuration}
 use Rattle.sets.specs.Sets.{most, has}
-use Rattle.scan.proofs.Model.{Problem, width, devices, longestDuration}
+use Rattle.scan.proofs.Model.{Problem, width, devices}
 
 -- The tables of a variant, of which the first `acts` entries count.
 unfoldable pub tablesOf : List ℕ → List ℕ → List ℕ → ℕ → Problem

@@ -3,6 +3,7 @@ use super::Tally;
 use network::ACTS;
 use network::CAP;
 use network::VARIANT;
+use plan::MOST_ACTS;
 use timetable::Timetable;
 ghost use mathlib.Core.Path.{_≡_};
 ghost use mathlib.Core.List.{_++_};
@@ -14,6 +15,9 @@ ghost use Rattle.network.specs.Network.{capOf, variantOf, actsOf};
 ghost use Rattle.search.specs.Tables.{problemOf};
 ghost use Rattle.search.specs.Seen.{latestEnd, placed, rowOf, settingIn, keptOf, IsTally, tallyOf, better, seen};
 ghost use Rattle.search.specs.Standing.{Ended, Fit};
+
+// The cells of a tally: three numbers, and a start for each activity number.
+pub const CELLS: usize = 3 + MOST_ACTS;
 
 fn start_of(end: u32, packed: u32) -> u16
     requires { ⌜ (end < 2 ^ 16) × ((end ≡ 0 → ⊥) → packed / 16 ≤ end) ⌝ }
@@ -53,19 +57,19 @@ fn list(table: &[u32; 131], work: &[u32; 80], count: u64, area: &mut [u16])
 }
 
 // The starts go behind the first three cells.
-fn keep(table: &[u32; 131], work: &[u32; 80], cells: &mut [u64; 27])
+fn keep(table: &[u32; 131], work: &[u32; 80], cells: &mut [u64; CELLS])
     requires { ⌜ Ended (now table) (now work) × IsTally (now cells) ⌝ }
     ensures { λ _. ⌜ IsTally (now (cells .exit)) × (now (cells .exit) ≡ take 3 (now (cells .entry)) ++ starts (problemOf (now (table .entry))) places (now (work .entry))) ⌝ }
 {
     let mut i = 0;
-    while i < 24 {
+    while i < MOST_ACTS {
         cells[3 + i] = start_of(work[i], table[i]) as u64;
         i += 1;
     }
 }
 
 // The schedule is counted, and kept where it ends sooner than the one kept.
-fn rank(table: &[u32; 131], work: &[u32; 80], latest: u32, cells: &mut [u64; 27])
+fn rank(table: &[u32; 131], work: &[u32; 80], latest: u32, cells: &mut [u64; CELLS])
     requires { ⌜ Ended (now table) (now work) × Fit (now table) × IsTally (now cells) × (getD (now cells) 0 0 < 2 ^ 32) × (latest ≡ latestEnd (now work)) ⌝ }
     ensures { λ _. ⌜ IsTally (now (cells .exit)) ⌝ }
     ensures { λ _. ⌜ tallyOf (now (cells .exit)) ≡ better (problemOf (now (table .entry))) (settingIn (now (table .entry))) (tallyOf (now (cells .entry))) (now (work .entry)) ⌝ }
@@ -84,7 +88,7 @@ pub fn leave(
     table: &[u32; 131],
     work: &[u32; 80],
     latest: u32,
-    cells: &mut [u64; 27],
+    cells: &mut [u64; CELLS],
     area: &mut [u16],
 )
     requires { ⌜ Ended (now table) (now work) × Fit (now table) × IsTally (now cells) × (latest ≡ latestEnd (now work)) ⌝ }
@@ -98,30 +102,30 @@ pub fn leave(
 }
 
 // The working cells: the count, the latest end, the variant and the starts of a tally.
-pub fn cells_of(tally: Tally) -> [u64; 27]
+pub fn cells_of(tally: Tally) -> [u64; CELLS]
     ensures { λ r. ⌜ IsTally r × (tallyOf r ≡ tally) ⌝ }
 {
-    let mut cells = [0; 27];
+    let mut cells = [0; CELLS];
     cells[0] = tally.count;
     cells[1] = tally.best_end;
     cells[2] = tally.best_variant;
     let best = tally.best;
     let starts = best.starts;
     let mut i = 0;
-    while i < 24 {
+    while i < MOST_ACTS {
         cells[3 + i] = starts[i] as u64;
         i += 1;
     }
     cells
 }
 
-pub fn tally_of(cells: &[u64; 27]) -> Tally
+pub fn tally_of(cells: &[u64; CELLS]) -> Tally
     requires { ⌜ IsTally (now cells) ⌝ }
     ensures { λ r. ⌜ r ≡ tallyOf (now (cells .entry)) ⌝ }
 {
     let mut best = Timetable::empty();
     let mut i = 0;
-    while i < 24 {
+    while i < MOST_ACTS {
         best.starts[i] = cells[3 + i] as u16;
         i += 1;
     }

@@ -10,12 +10,14 @@ use choices::later;
 use choices::least_key;
 use choices::opened;
 use choices::release;
+use leaf::CELLS;
 use leaf::cells_of;
 use leaf::leave;
 use leaf::tally_of;
 use members::after_lowest;
 use members::lowest;
 use network::CAP;
+use plan::MOST_ACTS;
 use timetable::Timetable;
 ghost use mathlib.Core.Path.{_≡_};
 ghost use Prim.Native.Nat.{_^_, _<_};
@@ -57,7 +59,7 @@ fn finish(
     cands: u32,
     latest: u32,
     work: &mut [u32; 80],
-    cells: &mut [u64; 27],
+    cells: &mut [u64; CELLS],
     area: &mut [u16],
 )
     requires { ⌜ Fit (now table) × Timed (now table) (now work) × IsTally (now cells) × (0 < left) × (afterLowest left ≡ 0) × ((s : Node) × AtNode (now table) left cands latest (now work) s) ⌝ }
@@ -78,7 +80,7 @@ fn settle(
     cands: u32,
     latest: u32,
     work: &mut [u32; 80],
-    cells: &mut [u64; 27],
+    cells: &mut [u64; CELLS],
     area: &mut [u16],
 )
     requires { ⌜ Fit (now table) × Timed (now table) (now work) × IsTally (now cells) × Apart (now table) left × ((s : Node) × AtNode (now table) left cands latest (now work) s) ⌝ }
@@ -108,7 +110,7 @@ fn descend(
     latest: u32,
     known: u32,
     work: &mut [u32; 80],
-    cells: &mut [u64; 27],
+    cells: &mut [u64; CELLS],
     area: &mut [u16],
 )
     requires { ⌜ Fit (now table) × Timed (now table) (now work) × IsTally (now cells) × (0 < known → 0 < afterLowest left) × ((s : Node) × AtNode (now table) left cands latest (now work) s) ⌝ }
@@ -149,9 +151,9 @@ fn descend(
 // Every active schedule of one variant is counted, until there are more than `cap`; the one that ends first of all so
 // far is kept, and each is written as a row where the area is long enough. Of each table the first `acts` entries count.
 pub fn search(
-    durations: &[u16; 24],
-    resources: &[u16; 24],
-    preds: &[u32; 24],
+    durations: &[u16; MOST_ACTS],
+    resources: &[u16; MOST_ACTS],
+    preds: &[u32; MOST_ACTS],
     acts: usize,
     present: u32,
     variant: u64,

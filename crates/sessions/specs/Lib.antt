@@ -1,3 +1,4 @@
 -- The sessions of a plan.
 pub mod Timetable
 pub mod Pairs
+pub mod Words

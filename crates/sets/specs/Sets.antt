@@ -1,11 +1,12 @@
--- A set of activities is a number below 2 ^ 24: bit i is set exactly if activity i is in the set.
+-- A set of activities is a number below 2 ^ most: bit i is set exactly if activity i is in the set.
 use Prim.Native.Nat.{ℕ, zero, suc, _+_, _/_, _%_, _^_}
 use mathlib.Core.Bool.{Bool, true, false, not}
 use lib.Bits.{bitAnd}
 use lib.Dec.{eqb}
+use Rattle.plan.specs.Limits.{mostActs}
 
 abbrev pub most : ℕ
-most = 24
+most = mostActs
 
 unfoldable pub has : ℕ → ℕ → Bool
 has set i = eqb (set / 2 ^ i % 2) 1

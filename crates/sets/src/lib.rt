@@ -1,4 +1,4 @@
-// Sets of activities: 24 bits, bit i for activity i.
+// Sets of activities: one bit for each, bit i for activity i.
 ghost use mathlib.Core.Path.{_≡_};
 ghost use Prim.Native.Nat.{_-_, _^_, _<_};
 ghost use mathlib.Core.Bool.{true};

@@ -9,7 +9,7 @@ use Rattle.sets.specs.Sets.{has, meet}
 use Rattle.sets.proofs.Laws.{has-none, has-or, has-single, meet-at, meet-of}
 use Rattle.term.specs.Term.{Term, Forest, act, seq, pll, xor, nil, cons}
 use Rattle.term.specs.Variants.{activities, activitiesOfAll, member}
-use Rattle.term.proofs.Model.{share}
+use Rattle.term.specs.Clash.{share}
 use Rattle.term.proofs.SomeOf.{some-found, some-is}
 use Rattle.term.proofs.Twice.{member-append, member-found, member-is}
 use Rattle.survey.specs.Walk.{mask, maskAll}

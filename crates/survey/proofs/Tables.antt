@@ -34,7 +34,7 @@ every-at f [] (suc i) y ys e d = absurd (cons≢nil (sym d))
 every-at f (x ∷ xs) zero y ys e d = ap f (sym (head-eq-of-cons-eq d)) ∙ and-eq-true-iff (f x) (every f xs) .0 e .0
 every-at f (x ∷ xs) (suc i) y ys e d = every-at f xs i y ys (and-eq-true-iff (f x) (every f xs) .0 e .1) d
 
--- Nodes in range among m activities are in range among more: what a caller needs whose plan has fewer than 24.
+-- Nodes in range among m activities are in range among more: what a caller needs whose plan has fewer than `most`.
 more-activities : (m n : ℕ) → m ≤ n → (x : Node) → isNode m x ≡ true → isNode n x ≡ true
 more-activities m n l (Plan.activity i) e = lt-ltb i n (omega (arith, ltb-true i m e))
 more-activities m n l (Plan.seq k) e = e

@@ -17,7 +17,8 @@ use Rattle.plan.specs.Plan.{Node, isNode, every}
 use Rattle.plan.specs.Plan
 use Rattle.sets.specs.Sets.{most, meet}
 use Rattle.term.specs.Term.{Term, Forest, act, seq, pll, xor, nil, cons, size, nodes, nodesOfAll, termOf}
-use Rattle.term.proofs.Model.{count, product, total, clash, clashTogether, clashApart}
+use Rattle.term.specs.Clash.{clash, clashTogether, clashApart}
+use Rattle.term.proofs.Model.{count, product, total}
 use Rattle.term.proofs.Reading.{NoTerm, NoForest, no-nodes, no-group, no-first, no-rest, width, none-at-all, none-with-more, termOf-nodes, full-termOf}
 use Rattle.term.proofs.Counting.{capped-sum, capped-product, variantCount-count}
 use Rattle.term.proofs.Twice.{twice-clash}

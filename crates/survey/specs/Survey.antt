@@ -5,7 +5,7 @@ use mathlib.Core.Bool.{true, false}
 use mathlib.Core.List.{List}
 use mathlib.Core.Option.{Option, none, some}
 use lib.ListN.{take}
-use Rattle.plan.specs.Limits.{mostVariants}
+use Rattle.plan.specs.Limits.{mostVariants, mostNodes}
 use Rattle.plan.specs.Plan.{Node, nodesOf, isNode, every}
 use Rattle.sets.specs.Sets.{most}
 use Rattle.term.specs.Term.{Term}
@@ -16,9 +16,9 @@ use Rattle.survey.specs.declared.Survey.{Survey}
 abbrev pub nodesIn : List ℕ → List ℕ → ℕ → List Node
 nodesIn letter number nodes = nodesOf (take nodes letter) (take nodes number)
 
--- The tables hold that many nodes, each with its number in range: an activity is one of 24, and a group has a child.
+-- The tables hold that many nodes, each with its number in range: an activity is one of `most`, and a group has a child.
 pub record InRange (letter number : List ℕ) (nodes : ℕ) : Type 0 where
-  pub held : nodes ≤ 64
+  pub held : nodes ≤ mostNodes
   pub ranged : every (isNode most) (nodesIn letter number nodes) ≡ true
 
 unfoldable pub surveyOf : Option Term → Survey

@@ -11,7 +11,8 @@ use Rattle.plan.specs.Limits.{mostVariants}
 use Rattle.plan.specs.Plan.{Node, isNode, every}
 use Rattle.sets.specs.Sets.{most, meet}
 use Rattle.term.specs.Term.{Term, Forest, act, seq, pll, xor, nil, cons, size, nodes, nodesOfAll}
-use Rattle.term.proofs.Model.{count, product, total, clash, clashTogether, clashApart}
+use Rattle.term.specs.Clash.{clash, clashTogether, clashApart}
+use Rattle.term.proofs.Model.{count, product, total}
 use Rattle.term.proofs.Reading.{NoTerm, NoForest}
 use Rattle.survey.specs.declared.Walk.{Walk}
 use Rattle.survey.specs.Survey.{nodesIn}

@@ -4,8 +4,9 @@ ghost use Prim.Native.Nat.{_≤_, min};
 ghost use Rattle.term.specs.Term.{termOf};
 ghost use Rattle.survey.specs.Survey.{nodesIn, InRange, surveyOf};
 ghost use Rattle.survey.specs.Walk.{stop, Held, togetherOf, joinedOf, Walked, WalkedAll};
+use plan::MOST_NODES;
 
-// The count of variants stops at 4097, one above the most that a plan may have.
+// The count of variants stops one above the most that a plan may have.
 pub struct Survey {
     pub whole: bool,
     pub twice: bool,
@@ -13,7 +14,7 @@ pub struct Survey {
 }
 
 // What a reader found: the node after what it read, its activities, whether one of its variants has an activity twice,
-// and its variants, counted up to 4097. Where the nodes run out there is nothing.
+// and its variants, counted up to STOP. Where the nodes run out there is nothing.
 struct Walk {
     ok: bool,
     next: usize,
@@ -22,7 +23,7 @@ struct Walk {
     count: u32,
 }
 
-const STOP: u32 = 4097;
+const STOP: u32 = plan::MOST_VARIANTS + 1;
 
 fn stopped(n: u32) -> u32
     ensures { λ r. ⌜ r ≡ min n stop ⌝ }
@@ -117,7 +118,11 @@ fn children(letter: &[u8], number: &[u8], nodes: usize, at: usize, left: usize, 
 }
 
 // The survey of a plan's nodes.
-pub fn surveyed<'a>(letter: &'a [u8; 64], number: &'a [u8; 64], nodes: usize) -> Survey
+pub fn surveyed<'a>(
+    letter: &'a [u8; MOST_NODES],
+    number: &'a [u8; MOST_NODES],
+    nodes: usize,
+) -> Survey
     requires { ⌜ InRange (now letter) (now number) nodes ⌝ }
     ensures { λ r. ⌜ r ≡ surveyOf (termOf (nodesIn (now (letter .entry)) (now (number .entry)) nodes)) ⌝ }
 {

@@ -1,11 +1,8 @@
--- What a walk of a term computes: V by sums and products, and 01's rule for "twice": two nodes of an activity meet first
--- at an s or p.
+-- V as a walk of a term computes it, by sums and products.
 use Prim.Native.Nat.{ℕ, _+_, _*_}
-use mathlib.Core.Bool.{Bool, true, false, _&&_, _||_}
-use mathlib.Core.List.{List}
+use mathlib.Core.Bool.{Bool, true, _&&_}
 use lib.Dec.{ltb}
 use Rattle.term.specs.Term.{Term, Forest, act, seq, pll, xor, nil, cons, size}
-use Rattle.term.specs.Variants.{activities, activitiesOfAll, member, some-of}
 
 unfoldable mutual
   pub count : Term → ℕ
@@ -21,27 +18,6 @@ unfoldable mutual
   pub total : Forest → ℕ
   total nil = 0
   total (cons t f) = count t + total f
-
--- Two lists have an activity in common.
-unfoldable pub share : List ℕ → List ℕ → Bool
-share xs ys = some-of (λ i. member i ys) xs
-
-unfoldable mutual
-  pub clash : Term → Bool
-  clash (act i) = false
-  clash (seq f) = clashTogether f
-  clash (pll f) = clashTogether f
-  clash (xor f) = clashApart f
-
-  -- the children all done
-  pub clashTogether : Forest → Bool
-  clashTogether nil = false
-  clashTogether (cons t f) = clash t || share (activities t) (activitiesOfAll f) || clashTogether f
-
-  -- one of the children done
-  pub clashApart : Forest → Bool
-  clashApart nil = false
-  clashApart (cons t f) = clash t || clashApart f
 
 -- Every group has a child.
 unfoldable mutual

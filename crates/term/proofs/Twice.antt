@@ -9,7 +9,8 @@ use lib.Dec.{eqb, ltb}
 use lib.ListN.{length}
 use Rattle.term.specs.Term.{Term, Forest, act, seq, pll, xor, nil, cons, size}
 use Rattle.term.specs.Variants.{paired, variants, combinations, alternatives, activities, activitiesOfAll, member, repeats, some-of, twice}
-use Rattle.term.proofs.Model.{share, clash, clashTogether, clashApart, full, fullAll}
+use Rattle.term.specs.Clash.{share, clash, clashTogether, clashApart}
+use Rattle.term.proofs.Model.{full, fullAll}
 use Rattle.term.proofs.Counting.{length-variants, length-combinations, some-variant, some-combination}
 use Rattle.term.proofs.SomeOf.{some-cong, some-append, some-map, some-swap, some-found, some-is, some-pair, pair-cong, pair-or, pair-first, pair-second}
 

@@ -1,13 +1,14 @@
--- A timetable has a place for each of 24 activity numbers, and 65535 at the absent ones.
+-- A timetable has a place for each activity number, and the mark at the absent ones.
 use Prim.Native.Nat.{ℕ}
 use mathlib.Core.List.{List}
 use lib.ListN.{replicate}
+use Rattle.plan.specs.Limits.{mostActs}
 
 abbrev pub mark : ℕ
 mark = 65535
 
 abbrev pub places : ℕ
-places = 24
+places = mostActs
 
 abbrev pub noStarts : List ℕ
 noStarts = replicate places mark

@@ -1,10 +1,11 @@
-// A timetable: one start for each of 24 activity numbers.
+// A timetable: one start for each activity number.
 ghost use mathlib.Core.Path.{_≡_};
 ghost use Rattle.timetable.specs.Mark.{noStarts};
+use plan::MOST_ACTS;
 
 // A start is in ticks; an absent activity has the mark.
 pub struct Timetable {
-    pub starts: [u16; 24],
+    pub starts: [u16; MOST_ACTS],
 }
 
 impl Timetable {
@@ -15,7 +16,7 @@ impl Timetable {
         ensures { λ r. ⌜ r .starts ≡ noStarts ⌝ }
     {
         Timetable {
-            starts: [Timetable::MARK; 24],
+            starts: [Timetable::MARK; MOST_ACTS],
         }
     }
 }

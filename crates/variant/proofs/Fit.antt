@@ -1,4 +1,4 @@
--- A full term of at most 64 nodes whose activities are in range is written in nodes that are in range.
+-- A full term of at most `mostNodes` nodes whose activities are in range is written in nodes that are in range.
 use Prim.Native.Nat.{ℕ, _≤_, _<_}
 use mathlib.Core.Bool.{true, false, _&&_, false≢true, and-eq-true-iff}
 use mathlib.Core.List.{List}
@@ -7,7 +7,7 @@ use native.Mathlib.Omega.{arith}
 use borrow.Author.Tests.{ltb-true, lt-ltb, eq-eqb, eqb-true}
 use lib.Dec.{ltb, eqb}
 use lib.ListN.{length, length-append}
-use Rattle.plan.specs.Limits.{isChildCount}
+use Rattle.plan.specs.Limits.{mostNodes, mostChildren, isChildCount}
 use Rattle.plan.specs.Plan.{isNode, every}
 use Rattle.bools.proofs.Bools.{both, and-left, and-right}
 use Rattle.format.proofs.Tests.{every-append, facts-between}
@@ -51,23 +51,24 @@ size-nodes nil = omega arith
 size-nodes (cons t f) = omega (arith, size-nodes f, nodes-some t, length-append (nodes t) (nodesOfAll f))
 
 group-fits : (f : Forest) (n : ℕ) → (fullAll f ≡ true → every (isNode n) (nodesOfAll f) ≡ true)
-    → ltb 0 (size f) && fullAll f ≡ true → length (nodesOfAll f) ≤ 63
+    → ltb 0 (size f) && fullAll f ≡ true → length (nodesOfAll f) ≤ mostChildren
     → isChildCount (size f) && every (isNode n) (nodesOfAll f) ≡ true
 group-fits f n below e l =
     let (s, a) = and-eq-true-iff (ltb 0 (size f)) (fullAll f) .0 e in
-    both (facts-between 1 63 (size f) (ltb-true 0 (size f) s) (omega (arith, size-nodes f))) (below a)
+    both (facts-between 1 mostChildren (size f) (ltb-true 0 (size f) s) (omega (arith, size-nodes f))) (below a)
 
 mutual
   unfolding nodes full activities member
 
-  pub nodes-fit : (t : Term) (n : ℕ) → full t ≡ true → Below n (activities t) → length (nodes t) ≤ 64 → every (isNode n) (nodes t) ≡ true
+  pub nodes-fit : (t : Term) (n : ℕ) → full t ≡ true → Below n (activities t) → length (nodes t) ≤ mostNodes
+      → every (isNode n) (nodes t) ≡ true
   nodes-fit (act i) n e b l = both (lt-ltb i n (b i (or-left (eqb i i) false (eq-eqb i i refl)))) refl
   nodes-fit (seq f) n e b l = group-fits f n (λ a. nodesOfAll-fit f n a b (omega arith)) e (omega arith)
   nodes-fit (pll f) n e b l = group-fits f n (λ a. nodesOfAll-fit f n a b (omega arith)) e (omega arith)
   nodes-fit (xor f) n e b l = group-fits f n (λ a. nodesOfAll-fit f n a b (omega arith)) e (omega arith)
 
   nodesOfAll-fit : (f : Forest) (n : ℕ) → fullAll f ≡ true → Below n (activitiesOfAll f)
-      → length (nodesOfAll f) ≤ 64 → every (isNode n) (nodesOfAll f) ≡ true
+      → length (nodesOfAll f) ≤ mostNodes → every (isNode n) (nodesOfAll f) ≡ true
   nodesOfAll-fit nil n e b l = refl
   nodesOfAll-fit (cons t f) n e b l =
       let (p, q) = and-eq-true-iff (full t) (fullAll f) .0 e in

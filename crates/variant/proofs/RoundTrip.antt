@@ -8,7 +8,7 @@ use mathlib.Core.Path.{_≡_, sym, ap, _∙_, subst}
 use native.Mathlib.Omega.{arith}
 use lib.Dec.{eqb}
 use lib.ListN.{length, getD}
-use Rattle.plan.specs.Limits.{longest}
+use Rattle.plan.specs.Limits.{longest, mostNodes}
 use Rattle.plan.specs.Plan.{Plan, isNode, every, isPlan}
 use Rattle.format.specs.Parse.{parse, holds}
 use Rattle.format.specs.Text.{text}
@@ -125,9 +125,9 @@ module _ (p : Plan) (t : Term) (v : ℕ) (c : Chosen p t v) where
       nodes-below t n (ap (every (isNode n)) (nodes-termOf (p .nodes) t (c .reads)) ∙ sound .nodes) i
       (of-variant (λ w. member i (activities w) ≡ true → member i (activities t) ≡ true) (pick-activities t v counted i) m)
 
-  few-nodes : length (nodes (dissolved (variantAt t v))) ≤ 64
+  few-nodes : length (nodes (dissolved (variantAt t v))) ≤ mostNodes
   few-nodes =
-      let most : length (p .nodes) ≤ 64 = between-facts 1 64 (length (p .nodes)) (sound .nodeCount) .1 in
+      let most : length (p .nodes) ≤ mostNodes = between-facts 1 mostNodes (length (p .nodes)) (sound .nodeCount) .1 in
       let fewer : length (nodes (variantAt t v)) ≤ length (nodes t) = of-variant (λ w. length (nodes w) ≤ length (nodes t)) (pick-nodes t v counted) in
       omega (arith, ap length (nodes-termOf (p .nodes) t (c .reads)), dissolved-nodes (variantAt t v))
 
@@ -143,7 +143,7 @@ module _ (p : Plan) (t : Term) (v : ℕ) (c : Chosen p t v) where
         resources = sound .resources;
         acts = sound .acts;
         activities = sound .activities;
-        nodeCount = facts-between 1 64 (length (nodes u)) (nodes-some u) few-nodes;
+        nodeCount = facts-between 1 mostNodes (length (nodes u)) (nodes-some u) few-nodes;
         nodes = nodes-fit u (length (p .activities)) (dissolved-full w variant-full) below few-nodes;
       })
 

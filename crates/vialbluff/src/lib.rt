@@ -9,6 +9,7 @@ use inspect::CheckAnswer;
 use listing::BestAnswer;
 use listing::CountAnswer;
 use listing::ListAnswer;
+use plan::MOST_ACTS;
 use plan::Refusal;
 use read::ReadAnswer;
 use timetable::Timetable;
@@ -83,7 +84,7 @@ fn of_best(a: BestAnswer) -> [u64; 4]
 }
 
 // The starts found, or those that stood there.
-fn starts_of(a: BestAnswer, found: [u16; 24], before: [u16; 24]) -> [u16; 24]
+fn starts_of(a: BestAnswer, found: [u16; MOST_ACTS], before: [u16; MOST_ACTS]) -> [u16; MOST_ACTS]
     ensures { λ s. ⌜ s ≡ startsKept a found before ⌝ }
 {
     match a {
@@ -111,7 +112,12 @@ pub extern "C" fn vialbluff_write(file: &[u8], variant: u32, area: &mut [u8], ou
 }
 
 #[no_mangle]
-pub extern "C" fn vialbluff_check(file: &[u8], variant: u32, starts: &[u16; 24], out: &mut [u64; 4])
+pub extern "C" fn vialbluff_check(
+    file: &[u8],
+    variant: u32,
+    starts: &[u16; MOST_ACTS],
+    out: &mut [u64; 4],
+)
     ensures { λ _. ⌜ now (out .exit) ≡ checkCells (checkOf (now (file .entry)) variant (now (starts .entry))) ⌝ }
 {
     let given = *starts;
@@ -133,7 +139,12 @@ pub extern "C" fn vialbluff_list(file: &[u8], cap: u32, area: &mut [u16], out: &
 }
 
 #[no_mangle]
-pub extern "C" fn vialbluff_best(file: &[u8], cap: u32, starts: &mut [u16; 24], out: &mut [u64; 4])
+pub extern "C" fn vialbluff_best(
+    file: &[u8],
+    cap: u32,
+    starts: &mut [u16; MOST_ACTS],
+    out: &mut [u64; 4],
+)
     ensures { λ _. ⌜ Finds (now (file .entry)) cap (now (starts .entry)) (now (starts .exit)) (now (out .exit)) ⌝ }
 {
     let best = calls::best(file, cap);

@@ -4,6 +4,7 @@ use mathlib.Core.List.{List}
 use mathlib.Core.Path.{_≡_}
 use lib.Dec.{leb}
 use lib.ListN.{length}
+use Rattle.plan.specs.Limits.{mostActs, mostNodes}
 use Rattle.plan.specs.Plan.{planOf}
 use Rattle.plan.specs.declared.Tables.{Tables}
 use Rattle.term.specs.Term.{Term}
@@ -23,8 +24,8 @@ pub record HasVariant (tables : Tables) (v : ℕ) : Type 0 where
 
 -- The tables hold variant v of that plan written out.
 pub record IsVariant (tables : Tables) (t : Term) (v : ℕ) (r : Tables) : Type 0 where
-  pub acts : r .acts ≤ 24
-  pub nodes : r .nodes ≤ 64
+  pub acts : r .acts ≤ mostActs
+  pub nodes : r .nodes ≤ mostNodes
   pub plan : planOf r ≡ variantPlan (planOf tables) (variantAt t v)
 
 -- Bytes into an area, if they fit there.

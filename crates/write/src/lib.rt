@@ -2,6 +2,7 @@
 ghost use Prim.Native.Nat.{_≤_};
 ghost use mathlib.Core.Path.{_≡_};
 ghost use mathlib.Core.Option.{some};
+ghost use Rattle.plan.specs.Limits.{mostActs, mostNodes};
 ghost use Rattle.plan.specs.Plan.{planOf};
 ghost use Rattle.format.specs.Text.{text};
 ghost use Rattle.term.specs.Term.{Term, termOf};
@@ -44,7 +45,7 @@ fn variant_of(tables: Tables, v: u32) -> Tables
 
 // The text of a plan at the front of the area, if it has room there.
 fn write_plan(tables: Tables, area: &mut [u8]) -> WriteAnswer
-    requires { ⌜ (tables .acts ≤ 24) × (tables .nodes ≤ 64) ⌝ }
+    requires { ⌜ (tables .acts ≤ mostActs) × (tables .nodes ≤ mostNodes) ⌝ }
     ensures { λ r.
         ⌜ record { answer = r; area = now (area .exit) }
         ≡ placedIn (now (area .entry)) (text (planOf tables)) ⌝ }

@@ -4,7 +4,7 @@ use mathlib.Core.List.{List, [], _∷_}
 use mathlib.Core.Path.{_≡_, refl, sym}
 use native.Mathlib.Omega.{arith}
 use lib.ListN.{length}
-use Rattle.plan.specs.Limits.{editionForm, resourcesForm, actsForm, nodesForm}
+use Rattle.plan.specs.Limits.{mostActs, mostNodes, editionForm, resourcesForm, actsForm, nodesForm}
 use Rattle.plan.specs.Plan.{planOf}
 use Rattle.plan.specs.declared.Tables.{Tables}
 use Rattle.format.specs.Lines.{filled}
@@ -21,12 +21,12 @@ one-value form v n e w = rw (← e, ← filled-padded form (v ∷ [])) w
 
 -- Tables whose counts are within their arrays.
 pub record Sized (t : Tables) : Type 0 where
-  pub acts : t .acts ≤ 24
-  pub resource : length (t .resource) ≡ 24
-  pub duration : length (t .duration) ≡ 24
-  pub nodes : t .nodes ≤ 64
-  pub letter : length (t .letter) ≡ 64
-  pub number : length (t .number) ≡ 64
+  pub acts : t .acts ≤ mostActs
+  pub resource : length (t .resource) ≡ mostActs
+  pub duration : length (t .duration) ≡ mostActs
+  pub nodes : t .nodes ≤ mostNodes
+  pub letter : length (t .letter) ≡ mostNodes
+  pub number : length (t .number) ≡ mostNodes
 
 module _ (t : Tables) (sized : Sized t) where
   act-count : length (planOf t .activities) ≡ t .acts

@@ -5,11 +5,13 @@ ghost use Prim.Native.Nat.{ℕ, _+_, _≤_, _<_, _^_};
 ghost use mathlib.Core.Path.{_≡_};
 ghost use mathlib.Core.List.{[], _∷_};
 ghost use lib.ListN.{length, take};
-ghost use Rattle.plan.specs.Limits.{mostDigits, actForm, nodeForm};
+ghost use Rattle.plan.specs.Limits.{mostDigits, mostActs, mostNodes, actForm, nodeForm};
 ghost use Rattle.plan.specs.Plan.{letterOf, nodeOf, valueOf, activitiesOf, nodesOf, planOf};
 ghost use Rattle.format.specs.Lines.{written, filled};
 ghost use Rattle.format.specs.Text.{actLines, nodeLines, text};
 ghost use Rattle.writer.specs.Wrote.{Wrote, WrotePiece, LettersFit, Holds};
+use plan::MOST_ACTS;
+use plan::MOST_NODES;
 use plan::Tables;
 
 // A line that is written as far as `at`, with the values that are next.
@@ -99,11 +101,11 @@ fn put_activity(area: &mut [u8], at: usize, resource: u16, duration: u16) -> usi
 fn put_activities(
     area: &mut [u8],
     at: usize,
-    resource: [u16; 24],
-    duration: [u16; 24],
+    resource: [u16; MOST_ACTS],
+    duration: [u16; MOST_ACTS],
     acts: usize,
 ) -> usize
-    requires { ⌜ (at < 200) × (acts ≤ 24) ⌝ }
+    requires { ⌜ (at < 200) × (acts ≤ mostActs) ⌝ }
     ensures { λ r.
         ⌜ Wrote (now (area .entry)) at
         (actLines (activitiesOf (take acts resource) (take acts duration)))
@@ -150,8 +152,14 @@ fn put_node(area: &mut [u8], at: usize, letter: u8, number: u8) -> usize
     )
 }
 
-fn put_nodes(area: &mut [u8], at: usize, letter: [u8; 64], number: [u8; 64], nodes: usize) -> usize
-    requires { ⌜ (at < 2000) × (nodes ≤ 64) ⌝ }
+fn put_nodes(
+    area: &mut [u8],
+    at: usize,
+    letter: [u8; MOST_NODES],
+    number: [u8; MOST_NODES],
+    nodes: usize,
+) -> usize
+    requires { ⌜ (at < 3000) × (nodes ≤ mostNodes) ⌝ }
     ensures { λ r.
         ⌜ Wrote (now (area .entry)) at
         (nodeLines (nodesOf (take nodes letter) (take nodes number)))
@@ -165,7 +173,7 @@ fn put_nodes(area: &mut [u8], at: usize, letter: [u8; 64], number: [u8; 64], nod
 }
 
 fn put_text(area: &mut [u8], tables: Tables) -> usize
-    requires { ⌜ (tables .acts ≤ 24) × (tables .nodes ≤ 64) ⌝ }
+    requires { ⌜ (tables .acts ≤ mostActs) × (tables .nodes ≤ mostNodes) ⌝ }
     ensures { λ r. ⌜ Wrote (now (area .entry)) 0 (text (planOf tables)) r (now (area .exit)) ⌝ }
 {
     let acts = tables.acts;
@@ -184,7 +192,7 @@ fn put_text(area: &mut [u8], tables: Tables) -> usize
 
 // The length of the text of a plan.
 pub fn text_length(tables: Tables) -> usize
-    requires { ⌜ (tables .acts ≤ 24) × (tables .nodes ≤ 64) ⌝ }
+    requires { ⌜ (tables .acts ≤ mostActs) × (tables .nodes ≤ mostNodes) ⌝ }
     ensures { λ r. ⌜ r ≡ length (text (planOf tables)) ⌝ }
 {
     let mut none = [0u8; 0];
@@ -193,7 +201,7 @@ pub fn text_length(tables: Tables) -> usize
 
 // The text of a plan at the front of the area, and its length. What stands after it in the area stays.
 pub fn write_text(tables: Tables, area: &mut [u8]) -> usize
-    requires { ⌜ (tables .acts ≤ 24) × (tables .nodes ≤ 64) × (length (text (planOf tables)) ≤ length (now area)) ⌝ }
+    requires { ⌜ (tables .acts ≤ mostActs) × (tables .nodes ≤ mostNodes) × (length (text (planOf tables)) ≤ length (now area)) ⌝ }
     ensures { λ r. ⌜ Holds (text (planOf tables)) (now (area .entry)) (now (area .exit)) r ⌝ }
 {
     put_text(area, tables)

@@ -60,7 +60,8 @@ impl Planner for Linked {
     }
 
     fn check(&self, file: &[u8], variant: u64, starts: &Timetable) -> Answer<bool> {
-        let [yes, ..] = answer(|out| unsafe { vialbluff_check(file.as_ptr(), file.len(), narrow(variant), starts, out) })?;
+        let [yes, ..] =
+            answer(|out| unsafe { vialbluff_check(file.as_ptr(), file.len(), narrow(variant), starts, out) })?;
         Ok(yes != 0)
     }
 

@@ -1,9 +1,9 @@
 //! The proved planner, called from Rust.
 
-#[cfg(feature = "linked")]
+#[cfg(not(feature = "stand-in"))]
 mod ffi;
 
-#[cfg(feature = "linked")]
+#[cfg(not(feature = "stand-in"))]
 pub use ffi::Linked;
 
 pub use calls::{Answer, Best, Planner, Refusal, Size, Timetable, MARK, PLACES};

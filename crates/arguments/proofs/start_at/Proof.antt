@@ -1,4 +1,4 @@
--- An activity below 24 and a start below the mark.
+-- An activity's number and a start below the mark.
 use native.Mathlib.Omega.{arith}
 use Rattle.arguments.proofs.Words.{no-activity, marked-start, a-start}
 use Rattle.arguments.proofs.start_at.Statement.{statement}

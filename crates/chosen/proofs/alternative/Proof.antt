@@ -2,6 +2,7 @@
 use Prim.Native.Nat.{_-_, _<_}
 use mathlib.Core.List.{List}
 use native.Mathlib.Omega.{arith}
+use Rattle.plan.specs.Limits.{mostNodes}
 use Rattle.plan.specs.Plan.{Node}
 use Rattle.chosen.specs.Model.{Apart}
 use Rattle.chosen.proofs.Walking.{Aside, aside-start, aside-inside, aside-step, aside-found}
@@ -12,9 +13,9 @@ abbrev Inv-loop : tie.InvT-loop
 Inv-loop next count from v at₀ left₀ at left = (ns : List Node) → Apart ns next count from v → Aside ns from v at left
 
 abbrev μ-loop : tie.MeasureT-loop
-μ-loop next count from v at₀ left₀ at left = 64 - at
+μ-loop next count from v at₀ left₀ at left = mostNodes - at
 
-within : (c : tie.At-loop Inv-loop μ-loop) → c .loop .at < 64
+within : (c : tie.At-loop Inv-loop μ-loop) → c .loop .at < mostNodes
 within c =
     let (ns, apart) = c .before .pre in
     omega (arith, apart .short, aside-inside apart (c .loop .inv ns apart))

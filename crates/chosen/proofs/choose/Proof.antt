@@ -3,14 +3,15 @@ use mathlib.Core.Path.{_≡_, refl, sym}
 use native.Mathlib.Omega.{arith}
 use lib.ListN.{length}
 use lib.Seq.{length-take-le}
+use Rattle.plan.specs.Limits.{mostNodes}
 use Rattle.chosen.proofs.Choosing.{start-ready, chose}
 use Rattle.chosen.proofs.choose.Statement.{statement}
 use Rattle.chosen.proofs.choose.Tie as tie
 
-letters : (c : tie.Start) → length (c .args .t1) ≡ 64
+letters : (c : tie.Start) → length (c .args .t1) ≡ mostNodes
 letters c = omega arith
 
-numbers : (c : tie.Start) → length (c .args .t2) ≡ 64
+numbers : (c : tie.Start) → length (c .args .t2) ≡ mostNodes
 numbers c = omega arith
 
 array-share-prefix-letter : tie.Need-array-share-prefix-letter

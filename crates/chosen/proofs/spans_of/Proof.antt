@@ -3,6 +3,7 @@ use Prim.Native.Nat.{_+_, _-_, _≤_, _<_}
 use mathlib.Core.Path.{_≡_, subst, _∙_}
 use native.Mathlib.Omega.{arith}
 use lib.ListN.{length, getD, length-set}
+use Rattle.plan.specs.Limits.{mostNodes}
 use Rattle.chosen.specs.Chosen.{nodesIn}
 use Rattle.chosen.specs.Model.{Spanned, Begun}
 use Rattle.chosen.proofs.Spanning.{length-in, spanned-none, begun, spanned-step}
@@ -11,7 +12,7 @@ use Rattle.chosen.proofs.spans_of.Tie as tie
 
 abbrev Inv-loop : tie.InvT-loop
 Inv-loop nodes letter number next₀ count₀ i₀ next count i =
-    (i ≤ nodes) × (length next ≡ 64) × (length count ≡ 64) × Spanned (nodesIn nodes letter number) next count i
+    (i ≤ nodes) × (length next ≡ mostNodes) × (length count ≡ mostNodes) × Spanned (nodesIn nodes letter number) next count i
 
 abbrev μ-loop : tie.MeasureT-loop
 μ-loop nodes letter number next₀ count₀ i₀ next count i = i
@@ -23,7 +24,7 @@ many c = length-in (c .args .nodes) (c .args .t1) (c .args .t2) (c .pre .0) (ome
 within : (c : tie.In-loop Inv-loop μ-loop) → c .before .loop .i - 1 < c .before .before .args .nodes
 within c = let h = c .loop-test .taken in let l = c .before .loop .inv .0 in omega arith
 
-below : (c : tie.In-loop Inv-loop μ-loop) → c .before .loop .i - 1 < 64
+below : (c : tie.In-loop Inv-loop μ-loop) → c .before .loop .i - 1 < mostNodes
 below c = omega (arith, within c, c .before .before .pre .0)
 
 inside : (c : tie.In-loop Inv-loop μ-loop) → c .before .loop .i - 1 < length (nodesIn (c .before .before .args .nodes) (c .before .before .args .t1) (c .before .before .args .t2))

@@ -3,6 +3,7 @@ use Prim.Native.Nat.{_<_}
 use mathlib.Core.List.{List}
 use mathlib.Core.Logic.{⊎-elim}
 use native.Mathlib.Omega.{arith}
+use Rattle.plan.specs.Limits.{mostNodes}
 use Rattle.plan.specs.Plan.{Node}
 use Rattle.chosen.specs.Model.{Walk}
 use Rattle.chosen.proofs.Walking.{Along, one-left, start-apart, start-together, along-start, along-inside, along-few, along-step, along-end}
@@ -15,7 +16,7 @@ Inv-loop apart k from next count at₀ left₀ ways₀ at left ways = (ns : List
 abbrev μ-loop : tie.MeasureT-loop
 μ-loop apart k from next count at₀ left₀ ways₀ at left ways = left
 
-within : (c : tie.In-loop Inv-loop μ-loop) → c .before .loop .at < 64
+within : (c : tie.In-loop Inv-loop μ-loop) → c .before .loop .at < mostNodes
 within c =
     let (ns, walk) = c .before .before .before .pre in
     omega (arith, walk .short, along-inside walk (one-left (c .loop-test .taken) (c .before .loop .inv ns walk)))

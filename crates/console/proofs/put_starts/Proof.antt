@@ -1,6 +1,7 @@
 -- Each turn passes one activity more. Nothing has to hold from turn to turn.
 use Prim.Native.Nat.{_-_}
 use native.Mathlib.Omega.{arith}
+use Rattle.plan.specs.Limits.{mostActs}
 use Rattle.console.proofs.put_starts.Statement.{statement}
 use Rattle.console.proofs.put_starts.Tie as tie
 
@@ -8,7 +9,7 @@ abbrev Inv-loop : tie.InvT-loop
 Inv-loop starts i₀ i = Unit {0}
 
 abbrev μ-loop : tie.MeasureT-loop
-μ-loop starts i₀ i = 24 - i
+μ-loop starts i₀ i = mostActs - i
 
 loop-holds : tie.Need-loop-holds Inv-loop μ-loop
 loop-holds c = tt

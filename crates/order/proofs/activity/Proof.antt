@@ -1,4 +1,4 @@
--- `activity` meets its contract: the array has 24 sets, and one of them is joined with what stands before.
+-- `activity` meets its contract: the array has a set for each activity number, and one of them is joined with what stands before.
 use borrow.Author.Needs.{needs}
 use Rattle.order.proofs.Joined.{one}
 use Rattle.order.proofs.activity.Statement.{statement}

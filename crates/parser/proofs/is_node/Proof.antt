@@ -1,4 +1,4 @@
--- An activity is below the count of activities, and any other node has 1 to 63 children.
+-- An activity is below the count of activities, and any other node has children within their range.
 use mathlib.Core.Path.{sym, _∙_}
 use Rattle.parser.proofs.Ranges.{activity-fits, children-fit}
 use borrow.Author.Needs.{needs}

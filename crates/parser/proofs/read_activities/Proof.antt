@@ -2,6 +2,7 @@
 use Prim.Native.Nat.{_-_}
 use mathlib.Core.Path.{refl}
 use native.Mathlib.Omega.{arith}
+use Rattle.plan.specs.Limits.{mostActs}
 use Rattle.parser.specs.Steps.{anActivity}
 use Rattle.parser.proofs.Loops.{activities, Filled, filled-none, filled-again, filled-done}
 use Rattle.parser.proofs.read_activities.Statement.{statement}
@@ -9,7 +10,7 @@ use Rattle.parser.proofs.read_activities.Tie as tie
 
 abbrev Inv-loop : tie.InvT-loop
 Inv-loop file resources acts last₀ resource₀ duration₀ i₀ last resource duration i =
-    Filled activities (anActivity resources) 24 file last₀ acts i last resource duration
+    Filled activities (anActivity resources) mostActs file last₀ acts i last resource duration
 
 abbrev μ-loop : tie.MeasureT-loop
 μ-loop file resources acts last₀ resource₀ duration₀ i₀ last resource duration i = acts - i
@@ -17,7 +18,8 @@ abbrev μ-loop : tie.MeasureT-loop
 loop-holds : tie.Need-loop-holds Inv-loop μ-loop
 loop-holds c =
     let start = c .before in
-    filled-none activities (anActivity (start .args .resources)) 24 (start .args .file .now) (start .args .state) (start .args .acts) _ _ refl refl
+    filled-none activities (anActivity (start .args .resources)) mostActs (start .args .file .now) (start .args .state)
+    (start .args .acts) _ _ refl refl
 
 read-activity-requires : tie.Need-read-activity-requires Inv-loop μ-loop
 read-activity-requires c κs = omega arith
@@ -45,16 +47,16 @@ loop-again c =
     let start = c .before .before .before .before .before in
     let loop = c .before .before .before .loop in
     let line = c .before .read-activity in
-    filled-again activities (anActivity (start .args .resources)) 24 (start .args .file .now) (start .args .state) (start .args .acts)
-    (loop .i) (loop .last) (loop .resource) (loop .duration) (loop .inv) (omega arith) (omega arith)
+    filled-again activities (anActivity (start .args .resources)) mostActs (start .args .file .now) (start .args .state)
+    (start .args .acts) (loop .i) (loop .last) (loop .resource) (loop .duration) (loop .inv) (omega arith) (omega arith)
     (line .result .state) (line .result .resource) (line .result .duration) (line .ensures)
 
 returns : tie.Need-returns Inv-loop μ-loop
 returns c =
     let start = c .before .before .before in
     let loop = c .before .loop in
-    filled-done activities (anActivity (start .args .resources)) 24 (start .args .file .now) (start .args .state) (start .args .acts)
-    (loop .i) (loop .last) (loop .resource) (loop .duration) (loop .inv) (omega arith)
+    filled-done activities (anActivity (start .args .resources)) mostActs (start .args .file .now) (start .args .state)
+    (start .args .acts) (loop .i) (loop .last) (loop .resource) (loop .duration) (loop .inv) (omega arith)
 
 pub read-activities-spec : {M : Type 1} → statement M
 read-activities-spec =

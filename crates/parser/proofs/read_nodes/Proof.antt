@@ -2,6 +2,7 @@
 use Prim.Native.Nat.{_-_}
 use mathlib.Core.Path.{refl}
 use native.Mathlib.Omega.{arith}
+use Rattle.plan.specs.Limits.{mostNodes}
 use Rattle.parser.specs.Steps.{aNode}
 use Rattle.parser.proofs.Loops.{nodes as pairs, Filled, filled-none, filled-again, filled-done}
 use Rattle.parser.proofs.read_nodes.Statement.{statement}
@@ -9,7 +10,7 @@ use Rattle.parser.proofs.read_nodes.Tie as tie
 
 abbrev Inv-loop : tie.InvT-loop
 Inv-loop file acts nodes last₀ letter₀ number₀ i₀ last letter number i =
-    Filled pairs (aNode acts) 64 file last₀ nodes i last letter number
+    Filled pairs (aNode acts) mostNodes file last₀ nodes i last letter number
 
 abbrev μ-loop : tie.MeasureT-loop
 μ-loop file acts nodes last₀ letter₀ number₀ i₀ last letter number i = nodes - i
@@ -17,7 +18,8 @@ abbrev μ-loop : tie.MeasureT-loop
 loop-holds : tie.Need-loop-holds Inv-loop μ-loop
 loop-holds c =
     let start = c .before in
-    filled-none pairs (aNode (start .args .acts)) 64 (start .args .file .now) (start .args .state) (start .args .nodes) _ _ refl refl
+    filled-none pairs (aNode (start .args .acts)) mostNodes (start .args .file .now) (start .args .state)
+    (start .args .nodes) _ _ refl refl
 
 read-node-requires : tie.Need-read-node-requires Inv-loop μ-loop
 read-node-requires c κs = omega arith
@@ -39,16 +41,16 @@ loop-again c =
     let start = c .before .before .before .before .before in
     let loop = c .before .before .before .loop in
     let line = c .before .read-node in
-    filled-again pairs (aNode (start .args .acts)) 64 (start .args .file .now) (start .args .state) (start .args .nodes)
-    (loop .i) (loop .last) (loop .letter) (loop .number) (loop .inv) (omega arith) (omega arith)
+    filled-again pairs (aNode (start .args .acts)) mostNodes (start .args .file .now) (start .args .state)
+    (start .args .nodes) (loop .i) (loop .last) (loop .letter) (loop .number) (loop .inv) (omega arith) (omega arith)
     (line .result .state) (line .result .letter) (line .result .number) (line .ensures)
 
 returns : tie.Need-returns Inv-loop μ-loop
 returns c =
     let start = c .before .before .before in
     let loop = c .before .loop in
-    filled-done pairs (aNode (start .args .acts)) 64 (start .args .file .now) (start .args .state) (start .args .nodes)
-    (loop .i) (loop .last) (loop .letter) (loop .number) (loop .inv) (omega arith)
+    filled-done pairs (aNode (start .args .acts)) mostNodes (start .args .file .now) (start .args .state)
+    (start .args .nodes) (loop .i) (loop .last) (loop .letter) (loop .number) (loop .inv) (omega arith)
 
 pub read-nodes-spec : {M : Type 1} → statement M
 read-nodes-spec =

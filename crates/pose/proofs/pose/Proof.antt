@@ -14,16 +14,14 @@ ordered-requires c κs =
     let b = c .before .before .before .before in
     let s = b .before .before .before in
     let p = s .pre in
-    one-term (s .args .tables) (s .args .spans) (s .args .v) p (b .choose .result) (b .choose .ensures (p .term) (p .holds .valid .term))
+    one-term (s .args .tables) (p .term) (p .holds) (b .choose .ensures (p .term) (p .holds .valid .term)) (omega (arith, p .below))
 
 returns : tie.Need-returns
 returns c =
     let b = c .before .before .before .before .before in
     let s = b .before .before .before in
     let p = s .pre in
-    posed (s .args .tables) (s .args .spans) (s .args .v) p (b .choose .result) (b .choose .ensures (p .term) (p .holds .valid .term))
-    (c .ordered .result)
-    (c .ordered .ensures)
+    posed (s .args .tables) (p .term) (p .holds) (b .choose .ensures (p .term) (p .holds .valid .term)) (c .ordered .result) (c .ordered .ensures)
 
 pub pose-spec : {M : Type 1} → statement M
 pose-spec = tie.close (tie.spec choose-requires ordered-requires returns)

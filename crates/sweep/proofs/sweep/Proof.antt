@@ -39,11 +39,10 @@ returns c =
 
 search-variant-requires : tie.Need-search-variant-requires Inv-loop μ-loop
 search-variant-requires c κs =
-    let at = c .before .before .before .before .loop in
     let b = c .before .before .before .before .before .before in
     let s = b .before .before in
-    posable (s .args .tables) (s .args .cap) (s .args .area .now) (s .args .variants) (s .pre) (b .spans .result) (at .v)
-    (c .before .before .before .loop-test .taken)
+    posable (s .args .tables) (s .args .cap) (s .args .area .now) (s .args .variants) (s .pre) (b .spans .result) _
+    (omega (arith, c .before .before .before .loop-test .taken))
     (b .spans .ensures)
 
 add-v : tie.Need-add-v Inv-loop μ-loop

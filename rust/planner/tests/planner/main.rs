@@ -1,5 +1,5 @@
-//! The planner against the reference. With the feature `linked` the planner is the proved one; without it the
-//! reference stands in for it, which tests this harness and no planner.
+//! The planner against the reference. With the feature `stand-in` the reference stands in for the proved planner, which
+//! tests this harness and no planner.
 
 mod campaigns;
 mod compare;
@@ -7,12 +7,12 @@ mod differential;
 mod faults;
 mod plans;
 
-#[cfg(feature = "linked")]
+#[cfg(not(feature = "stand-in"))]
 fn planner() -> impl planner::Planner {
     planner::Linked
 }
 
-#[cfg(not(feature = "linked"))]
+#[cfg(feature = "stand-in")]
 fn planner() -> impl planner::Planner {
     reference::Reference
 }

@@ -1,7 +1,7 @@
 -- `cells_of` meets its contract. The loop's invariant: the starts passed are stored behind the first three cells.
 use mathlib.Core.Path.{_≡_, refl, sym, ap, _∙_}
 use mathlib.Core.List.{List, [], _∷_, map}
-use Prim.Native.Nat.{ℕ, zero, suc, _^_, _≤_, _<_, _-_}
+use Prim.Native.Nat.{ℕ, zero, suc, _+_, _^_, _≤_, _<_, _-_}
 use mir.Val.{Val}
 use denote.Shadow.{shadow}
 use denote.Array.{each}
@@ -9,6 +9,7 @@ use denote.Struct.Field.{u16-field}
 use native.Mathlib.Omega.{arith}
 use lib.ListN.{length, getD, set, replicate, length-map, List·getD-map}
 use lib.Seq.{paste, paste-zero}
+use Rattle.timetable.specs.Mark.{places}
 use Rattle.search.specs.Seen.{tallyOf}
 use Rattle.search.proofs.Rows.{one-more, all-stored, tally-stored}
 use borrow.Author.Needs.{needs}
@@ -16,10 +17,10 @@ use Rattle.search.proofs.leaf.cells_of.Statement.{statement}
 use Rattle.search.proofs.leaf.cells_of.Tie as tie
 
 abbrev Inv-loop : tie.InvT-loop
-Inv-loop cells₀ starts i₀ cells i = (i ≤ 24) × (cells ≡ paste cells₀ 3 starts i)
+Inv-loop cells₀ starts i₀ cells i = (i ≤ places) × (cells ≡ paste cells₀ 3 starts i)
 
 abbrev μ-loop : tie.MeasureT-loop
-μ-loop cells₀ starts i₀ cells i = 24 - i
+μ-loop cells₀ starts i₀ cells i = places - i
 
 -- Each number of an array of 16-bit words is below 2 ^ 16.
 each-below : (xs : List ℕ) (us : List Val) → shadow (each ℕ (u16-field .row .own) xs us) → (i : ℕ) → i < length xs → getD xs i 0 < 2 ^ 16
@@ -29,17 +30,17 @@ each-below (x ∷ xs) (u ∷ us) h zero l = omega (arith, h .0)
 each-below (x ∷ xs) (u ∷ us) h (suc i) l = each-below xs us (h .1) i (omega arith)
 
 -- The array that stands in the tally.
-starts-sized : (start : tie.Start Inv-loop μ-loop) → length (start .args .tally .best .starts) ≡ 24
+starts-sized : (start : tie.Start Inv-loop μ-loop) → length (start .args .tally .best .starts) ≡ places
 starts-sized start = sym (length-map (start .args .tally .best .starts) (λ v. v)) ∙ start .good .0 .1 .1 .1 .1 .1 .0 .1 .1 .0 .1 .0 .1
 
-starts-low : (start : tie.Start Inv-loop μ-loop) (i : ℕ) → i < 24 → getD (start .args .tally .best .starts) i 0 < 2 ^ 16
+starts-low : (start : tie.Start Inv-loop μ-loop) (i : ℕ) → i < places → getD (start .args .tally .best .starts) i 0 < 2 ^ 16
 starts-low start i l =
     let s = start .args .tally .best .starts in
     let array = start .good .0 .1 .1 .1 .1 .1 .0 .1 .1 .0 in
     omega (arith, List·getD-map (λ v. v) s i 0, each-below (map (λ v. v) s) (array .0) (array .1 .1) i (omega (arith, array .1 .0 .1)))
 
 abbrev first : tie.Start Inv-loop μ-loop → List ℕ
-first start = let t = start .args .tally in set (set (set (replicate 27 0) 0 (t .count)) 1 (t .«best_end»)) 2 (t .«best_variant»)
+first start = let t = start .args .tally in set (set (set (replicate (3 + places) 0) 0 (t .count)) 1 (t .«best_end»)) 2 (t .«best_variant»)
 
 array-write-cells : tie.Need-array-write-cells Inv-loop μ-loop
 array-write-cells c = omega arith

@@ -13,10 +13,10 @@ use Rattle.search.proofs.leaf.keep.Statement.{statement}
 use Rattle.search.proofs.leaf.keep.Tie as tie
 
 abbrev Inv-loop : tie.InvT-loop
-Inv-loop table work cells₀ i₀ cells i = (i ≤ 24) × (cells ≡ paste cells₀ 3 (starts (problemOf table) places work) i)
+Inv-loop table work cells₀ i₀ cells i = (i ≤ places) × (cells ≡ paste cells₀ 3 (starts (problemOf table) places work) i)
 
 abbrev μ-loop : tie.MeasureT-loop
-μ-loop table work cells₀ i₀ cells i = 24 - i
+μ-loop table work cells₀ i₀ cells i = places - i
 
 loop-holds : tie.Need-loop-holds Inv-loop μ-loop
 loop-holds c = (omega arith, paste-zero (c .args .cells .now) 3 (starts (problemOf (c .args .table .now)) places (c .args .work .now)))

@@ -4,6 +4,7 @@ use Prim.Native.Nat.{ℕ, _+_, _≤_, _-_}
 use native.Mathlib.Omega.{arith}
 use lib.ListN.{length, getD, take, drop, length-set, length-drop}
 use lib.Seq.{take-all, getD-drop}
+use Rattle.timetable.specs.Mark.{places}
 use Rattle.search.proofs.Rows.{one-copied}
 use borrow.Author.Needs.{needs}
 use Rattle.search.proofs.leaf.tally_of.Statement.{statement}
@@ -11,10 +12,10 @@ use Rattle.search.proofs.leaf.tally_of.Tie as tie
 
 abbrev Inv-loop : tie.InvT-loop
 Inv-loop cells best₀ i₀ best i =
-    (i ≤ 24) × (length (best .starts) ≡ 24) × (take i (best .starts) ≡ take i (drop 3 cells))
+    (i ≤ places) × (length (best .starts) ≡ places) × (take i (best .starts) ≡ take i (drop 3 cells))
 
 abbrev μ-loop : tie.MeasureT-loop
-μ-loop cells best₀ i₀ best i = 24 - i
+μ-loop cells best₀ i₀ best i = places - i
 
 empty-requires : tie.Need-empty-requires Inv-loop μ-loop
 empty-requires c κs = search needs
@@ -72,9 +73,9 @@ returns : tie.Need-returns Inv-loop μ-loop
 returns c =
     let at = c .before .before .before .before in
     let cells = at .before .before .args .cells .now in
-    let all : at .loop .i ≡ 24 = omega arith in
+    let all : at .loop .i ≡ places = omega arith in
     let same : at .loop .best .starts ≡ drop 3 cells =
-    sym (take-all 24 (at .loop .best .starts) (omega arith))
+    sym (take-all places (at .loop .best .starts) (omega arith))
     ∙ ap (λ (k : ℕ). take k (at .loop .best .starts)) (sym all)
     ∙ at .loop .inv .2
     ∙ take-all (at .loop .i) (drop 3 cells) (omega (arith, length-drop 3 cells, at .before .before .pre .size)) in

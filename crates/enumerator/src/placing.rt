@@ -1,0 +1,105 @@
+// Every feasible session of a variant whose starts are at most the sum of its durations.
+use crate::relation::PAIRS;
+use crate::session::active;
+use crate::session::fits;
+use crate::session::makespan;
+use crate::session::spanned;
+use plain::ACTS;
+
+// A search ends when it has tried about this many starts.
+pub const LIMIT: u32 = 1000000000;
+
+// A search under way: the number of activities, the number of the variant and one more than the sum of its durations, and of
+// all variants so far the active sessions, the least makespan, the cells of the rows and the starts tried.
+pub struct Search {
+    pub acts: usize,
+    pub variant: u16,
+    pub room: u16,
+    pub count: u32,
+    pub makespan: u32,
+    pub cells: usize,
+    pub tried: u32,
+}
+
+pub fn start(acts: usize) -> Search {
+    Search {
+        acts,
+        variant: 0,
+        room: 0,
+        count: 0,
+        makespan: 4294967295,
+        cells: 0,
+        tried: 0,
+    }
+}
+
+fn with_active(area: &mut [u16], starts: &[u16; ACTS], s: Search) -> Search {
+    let mut t = s;
+    t.count = std::num::wrapping_add_u32(s.count, 1);
+    t.cells = crate::rows::put_row(area, s.cells, s.variant, starts, s.acts);
+    t
+}
+
+// A feasible session is found.
+fn with_session<'a>(
+    relations: &'a [u8; PAIRS],
+    duration: &'a [u16; ACTS],
+    starts: &'a [u16; ACTS],
+    s: Search,
+    area: &mut [u16],
+) -> Search {
+    let span = spanned(duration, starts);
+    let length = makespan(span);
+    let mut t = s;
+    t.tried = std::num::wrapping_add_u32(s.tried, span.ticks);
+    if length < s.makespan {
+        t.makespan = length;
+    }
+    if active(relations, duration, starts, s.acts) {
+        return with_active(area, starts, t);
+    }
+    t
+}
+
+fn with_start(starts: [u16; ACTS], i: usize, tick: u16) -> [u16; ACTS] {
+    let mut next = starts;
+    if i < ACTS {
+        next[i] = tick;
+    }
+    next
+}
+
+// The activities from i on, each at every tick where it fits those before it.
+pub fn place<'a>(
+    relations: &'a [u8; PAIRS],
+    duration: &'a [u16; ACTS],
+    starts: [u16; ACTS],
+    i: usize,
+    s: Search,
+    area: &mut [u16],
+) -> Search {
+    if LIMIT <= s.tried {
+        return s;
+    }
+    if ACTS <= i {
+        return with_session(relations, duration, &starts, s, area);
+    }
+    if duration[i] == 0 {
+        return place(relations, duration, starts, i + 1, s, area);
+    }
+    let mut t = s;
+    t.tried = s.tried + s.room as u32;
+    for tick in 0..s.room {
+        if fits(relations, duration, &starts, s.acts, i, tick) {
+            t = place(
+                relations,
+                duration,
+                with_start(starts, i, tick),
+                i + 1,
+                t,
+                area,
+            );
+        }
+    }
+    t
+}

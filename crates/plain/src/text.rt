@@ -1,0 +1,151 @@
+// The lines of a plan file, tested one by one, for the refusal that rests on the file's length or on a line.
+use crate::ACTS;
+use crate::LONGEST;
+use crate::NODES;
+use crate::line::Line;
+
+const BYTES: usize = 959;
+
+const DEVICES: u16 = 16;
+
+// One more than the lines of the longest plan.
+const LINES: u64 = (5 + ACTS + NODES) as u64;
+
+// The number and the figure of the refusal, 0 where there is none; the place of the next line; how many devices, activities
+// and nodes there are; and the places of the first activity's line and the first node's.
+pub struct Text {
+    pub number: u64,
+    pub figure: u64,
+    at: usize,
+    devices: u16,
+    pub acts: u16,
+    pub nodes: u16,
+    pub acts_at: usize,
+    pub nodes_at: usize,
+}
+
+fn refused(t: Text, number: u64, figure: u64) -> Text {
+    let mut u = t;
+    u.number = number;
+    u.figure = figure;
+    u
+}
+
+// The text with one more line, whose values are in range or not.
+fn with_line(t: Text, l: Line, fits: bool, line: u64) -> Text {
+    if !l.ok {
+        return refused(t, 2, line);
+    }
+    if !fits {
+        return refused(t, 3, line);
+    }
+    let mut u = t;
+    u.at = l.at;
+    u
+}
+
+fn with_edition(file: &[u8], t: Text, line: u64) -> Text {
+    let l = crate::line::single(file, t.at, b"plan=");
+    with_line(t, l, l.right == 1, line)
+}
+
+fn with_devices(file: &[u8], t: Text, line: u64) -> Text {
+    let l = crate::line::single(file, t.at, b"res=");
+    let mut u = with_line(t, l, (0 < l.right) & (l.right <= DEVICES), line);
+    u.devices = l.right;
+    u
+}
+
+fn with_acts(file: &[u8], t: Text, line: u64) -> Text {
+    let l = crate::line::single(file, t.at, b"acts=");
+    let mut u = with_line(t, l, (0 < l.right) & (l.right <= ACTS as u16), line);
+    u.acts = l.right;
+    u.acts_at = l.at;
+    u
+}
+
+fn with_act(file: &[u8], t: Text, line: u64) -> Text {
+    let l = crate::line::activity(file, t.at);
+    let fits = (l.left < t.devices) & (0 < l.right) & (l.right <= LONGEST);
+    with_line(t, l, fits, line)
+}
+
+fn with_nodes(file: &[u8], t: Text, line: u64) -> Text {
+    let l = crate::line::single(file, t.at, b"nodes=");
+    let mut u = with_line(t, l, (0 < l.right) & (l.right <= NODES as u16), line);
+    u.nodes = l.right;
+    u.nodes_at = l.at;
+    u
+}
+
+// An activity has its number, and a group how many children it has.
+fn with_node(file: &[u8], t: Text, line: u64) -> Text {
+    let l = crate::line::node(file, t.at);
+    let fits = if l.letter == b'a' {
+        l.right < t.acts
+    } else {
+        (0 < l.right) & (l.right < NODES as u16)
+    };
+    with_line(t, l, fits, line)
+}
+
+// The line after the last is no line: the file ends there.
+fn with_end(file: &[u8], t: Text, line: u64) -> Text {
+    if t.at == file.len() {
+        t
+    } else {
+        refused(t, 2, line)
+    }
+}
+
+// The lines that come after the number of activities.
+fn with_listed(file: &[u8], t: Text, line: u64) -> Text {
+    let acts = std::num::wrapping_add_u64(3, t.acts as u64);
+    if line <= acts {
+        return with_act(file, t, line);
+    }
+    let nodes = std::num::wrapping_add_u64(acts, 1);
+    if line == nodes {
+        return with_nodes(file, t, line);
+    }
+    if line <= std::num::wrapping_add_u64(nodes, t.nodes as u64) {
+        return with_node(file, t, line);
+    }
+    with_end(file, t, line)
+}
+
+fn step(file: &[u8], t: Text, line: u64) -> Text {
+    if t.number != 0 {
+        return t;
+    }
+    if line == 1 {
+        return with_edition(file, t, line);
+    }
+    if line == 2 {
+        return with_devices(file, t, line);
+    }
+    if line == 3 {
+        return with_acts(file, t, line);
+    }
+    with_listed(file, t, line)
+}
+
+pub fn read(file: &[u8]) -> Text {
+    let mut t = Text {
+        number: 0,
+        figure: 0,
+        at: 0,
+        devices: 0,
+        acts: 0,
+        nodes: 0,
+        acts_at: 0,
+        nodes_at: 0,
+    };
+    if (file.len() == 0) | (BYTES < file.len()) {
+        return refused(t, 1, 0);
+    }
+    for line in 1..=LINES {
+        t = step(file, t, line);
+    }
+    t
+}

@@ -1,0 +1,87 @@
+// A refusal of every number, in the order of the paper's table, printed as the programs print it.
+use console::put;
+use timetable::Timetable;
+
+fn put_length() -> bool {
+    put(b"case=empty_file call=read\n")
+        && answers::put_read(b"")
+        && put(b"case=file_of_960_bytes call=read\n")
+        && answers::put_read(&[b'a'; console::FILE])
+}
+
+fn put_form() -> bool {
+    put(b"case=leading_zero call=read\n")
+        && answers::put_read(&samples::leading_zero())
+        && put(b"case=node_absent call=read\n")
+        && answers::put_read(&samples::node_absent())
+        && put(b"case=line_too_many call=read\n")
+        && answers::put_read(&samples::line_too_many())
+}
+
+fn put_range() -> bool {
+    put(b"case=duration_2001 call=read\n") && answers::put_read(&samples::duration_2001())
+}
+
+fn put_term() -> bool {
+    put(b"case=child_absent call=read\n")
+        && answers::put_read(&samples::child_absent())
+        && put(b"case=twice_under_p call=read\n")
+        && answers::put_read(&samples::twice_under_p())
+        && put(b"case=twelve_choices_and_one call=read\n")
+        && answers::put_read(&samples::twelve_choices_and_one())
+}
+
+// The dot test has variants 0 and 1.
+fn put_variant() -> bool {
+    let mut area = [0u8; answers::BYTES];
+    put(b"case=variant_2 call=write\n")
+        && answers::put_written(&samples::dot_test(), 2, &mut area)
+        && put(b"case=variant_2 call=check\n")
+        && answers::put_checked(&samples::dot_test(), 2, Timetable::empty())
+}
+
+// The dot test has three active sessions.
+fn put_cap() -> bool {
+    let mut area = [0u16; 18];
+    put(b"case=cap_2 call=count\n")
+        && answers::put_counted(&samples::dot_test(), 2)
+        && put(b"case=cap_2 call=list\n")
+        && answers::put_listed(&samples::dot_test(), 2, &mut area)
+        && put(b"case=cap_2 call=best\n")
+        && answers::put_best(&samples::dot_test(), 2)
+}
+
+// The dot test's variant 0 takes 113 bytes.
+fn put_bytes() -> bool {
+    let mut area = [0u8; 112];
+    put(b"case=112_bytes call=write\n") && answers::put_written(&samples::dot_test(), 0, &mut area)
+}
+
+fn put_cells() -> bool {
+    let mut area = [0u16; answers::CELLS];
+    put(b"case=eight_in_parallel call=list\n")
+        && answers::put_listed(&samples::eight_in_parallel(), 1000000, &mut area)
+}
+
+// As the program `best` prints them.
+fn put_best() -> bool {
+    put(b"case=leading_zero program=best\n")
+        && console::put_best(calls::best(&samples::leading_zero(), 1000000))
+        && put(b"case=ten_in_parallel program=best\n")
+        && console::put_best(calls::best(&samples::ten_in_parallel(), 1000000))
+}
+
+fn main() {
+    let is_written = put_length()
+        && put_form()
+        && put_range()
+        && put_term()
+        && put_variant()
+        && put_cap()
+        && put_bytes()
+        && put_cells()
+        && put_best();
+    if !is_written {
+        os::fail(b"standard output");
+    }
+}

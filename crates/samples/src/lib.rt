@@ -1,0 +1,120 @@
+// Plan files: the worked campaigns, and one for each kind of fault, as the programs that run them take them.
+
+// The dot test, whole.
+pub fn dot_test() -> [u8; 149] {
+    *b"plan=1\nres=3\nacts=5\n\
+        act=0,4\nact=1,2\nact=1,3\nact=2,5\nact=1,6\n\
+        nodes=9\nnode=s,2\nnode=x,2\nnode=a,0\nnode=p,2\nnode=a,1\nnode=a,2\nnode=p,2\nnode=a,3\nnode=a,4\n"
+}
+
+// p over two activities of duration 1 on device 0 and two on device 1.
+pub fn two_contested() -> [u8; 105] {
+    *b"plan=1\nres=2\nacts=4\n\
+        act=0,1\nact=0,1\nact=1,1\nact=1,1\n\
+        nodes=5\nnode=p,4\nnode=a,0\nnode=a,1\nnode=a,2\nnode=a,3\n"
+}
+
+// A free device has to wait: the shortest session has makespan 22.
+pub fn free_device_waits() -> [u8; 116] {
+    *b"plan=1\nres=2\nacts=4\n\
+        act=0,10\nact=1,1\nact=0,1\nact=1,20\n\
+        nodes=6\nnode=p,2\nnode=a,0\nnode=s,3\nnode=a,1\nnode=a,2\nnode=a,3\n"
+}
+
+// Document 000, Example 2, second term.
+pub fn example_2() -> [u8; 210] {
+    *b"plan=1\nres=4\nacts=8\n\
+        act=0,1\nact=1,2\nact=2,2\nact=1,1\nact=0,1\nact=0,2\nact=3,1\nact=1,2\n\
+        nodes=13\nnode=p,4\nnode=s,2\nnode=p,2\nnode=a,0\nnode=a,1\nnode=a,2\nnode=s,2\nnode=a,3\nnode=a,4\n\
+        node=a,5\nnode=s,2\nnode=a,6\nnode=a,7\n"
+}
+
+// x over activity 0 twice.
+pub fn twice_under_x() -> [u8; 63] {
+    *b"plan=1\nres=1\nacts=1\n\
+        act=0,1\n\
+        nodes=3\nnode=x,2\nnode=a,0\nnode=a,0\n"
+}
+
+// p over activity 0 twice.
+pub fn twice_under_p() -> [u8; 63] {
+    *b"plan=1\nres=1\nacts=1\n\
+        act=0,1\n\
+        nodes=3\nnode=p,2\nnode=a,0\nnode=a,0\n"
+}
+
+// p over twelve x of two distinct activities: 4096 variants.
+pub fn twelve_choices() -> [u8; 570] {
+    *b"plan=1\nres=1\nacts=24\n\
+        act=0,1\nact=0,1\nact=0,1\nact=0,1\nact=0,1\nact=0,1\nact=0,1\nact=0,1\nact=0,1\nact=0,1\nact=0,1\n\
+        act=0,1\nact=0,1\nact=0,1\nact=0,1\nact=0,1\nact=0,1\nact=0,1\nact=0,1\nact=0,1\nact=0,1\nact=0,1\n\
+        act=0,1\nact=0,1\n\
+        nodes=37\nnode=p,12\nnode=x,2\nnode=a,0\nnode=a,1\nnode=x,2\nnode=a,2\nnode=a,3\nnode=x,2\n\
+        node=a,4\nnode=a,5\nnode=x,2\nnode=a,6\nnode=a,7\nnode=x,2\nnode=a,8\nnode=a,9\nnode=x,2\n\
+        node=a,10\nnode=a,11\nnode=x,2\nnode=a,12\nnode=a,13\nnode=x,2\nnode=a,14\nnode=a,15\nnode=x,2\n\
+        node=a,16\nnode=a,17\nnode=x,2\nnode=a,18\nnode=a,19\nnode=x,2\nnode=a,20\nnode=a,21\nnode=x,2\n\
+        node=a,22\nnode=a,23\n"
+}
+
+// One of these x with its first activity a second time: 6144 variants.
+pub fn twelve_choices_and_one() -> [u8; 579] {
+    *b"plan=1\nres=1\nacts=24\n\
+        act=0,1\nact=0,1\nact=0,1\nact=0,1\nact=0,1\nact=0,1\nact=0,1\nact=0,1\nact=0,1\nact=0,1\nact=0,1\n\
+        act=0,1\nact=0,1\nact=0,1\nact=0,1\nact=0,1\nact=0,1\nact=0,1\nact=0,1\nact=0,1\nact=0,1\nact=0,1\n\
+        act=0,1\nact=0,1\n\
+        nodes=38\nnode=p,12\nnode=x,3\nnode=a,0\nnode=a,1\nnode=a,0\nnode=x,2\nnode=a,2\nnode=a,3\n\
+        node=x,2\nnode=a,4\nnode=a,5\nnode=x,2\nnode=a,6\nnode=a,7\nnode=x,2\nnode=a,8\nnode=a,9\nnode=x,2\n\
+        node=a,10\nnode=a,11\nnode=x,2\nnode=a,12\nnode=a,13\nnode=x,2\nnode=a,14\nnode=a,15\nnode=x,2\n\
+        node=a,16\nnode=a,17\nnode=x,2\nnode=a,18\nnode=a,19\nnode=x,2\nnode=a,20\nnode=a,21\nnode=x,2\n\
+        node=a,22\nnode=a,23\n"
+}
+
+// A value with a leading zero, on line 4.
+pub fn leading_zero() -> [u8; 46] {
+    *b"plan=1\nres=1\nacts=1\n\
+        act=0,04\n\
+        nodes=1\nnode=a,0\n"
+}
+
+// A duration out of range, on line 4.
+pub fn duration_2001() -> [u8; 48] {
+    *b"plan=1\nres=1\nacts=1\n\
+        act=0,2001\n\
+        nodes=1\nnode=a,0\n"
+}
+
+// Line 6, the only node, is absent.
+pub fn node_absent() -> [u8; 36] {
+    *b"plan=1\nres=1\nacts=1\n\
+        act=0,1\n\
+        nodes=1\n"
+}
+
+// A well-formed line follows the last one, which is line 6.
+pub fn line_too_many() -> [u8; 54] {
+    *b"plan=1\nres=1\nacts=1\n\
+        act=0,1\n\
+        nodes=1\nnode=a,0\nnode=a,0\n"
+}
+
+// A p that lacks its second child.
+pub fn child_absent() -> [u8; 54] {
+    *b"plan=1\nres=1\nacts=1\n\
+        act=0,1\n\
+        nodes=2\nnode=p,2\nnode=a,0\n"
+}
+
+// p over eight activities of duration 1 on one device: 40320 sessions.
+pub fn eight_in_parallel() -> [u8; 173] {
+    *b"plan=1\nres=1\nacts=8\n\
+        act=0,1\nact=0,1\nact=0,1\nact=0,1\nact=0,1\nact=0,1\nact=0,1\nact=0,1\n\
+        nodes=9\nnode=p,8\nnode=a,0\nnode=a,1\nnode=a,2\nnode=a,3\nnode=a,4\nnode=a,5\nnode=a,6\nnode=a,7\n"
+}
+
+// p over ten of them: 3628800 sessions.
+pub fn ten_in_parallel() -> [u8; 210] {
+    *b"plan=1\nres=1\nacts=10\n\
+        act=0,1\nact=0,1\nact=0,1\nact=0,1\nact=0,1\nact=0,1\nact=0,1\nact=0,1\nact=0,1\nact=0,1\n\
+        nodes=11\nnode=p,10\nnode=a,0\nnode=a,1\nnode=a,2\nnode=a,3\nnode=a,4\nnode=a,5\nnode=a,6\n\
+        node=a,7\nnode=a,8\nnode=a,9\n"
+}

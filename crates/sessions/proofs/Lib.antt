@@ -1,0 +1,2 @@
+-- What the tests of sessions mean.
+pub mod Words
