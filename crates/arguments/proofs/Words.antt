@@ -6,15 +6,15 @@ use mathlib.Core.Path.{_≡_, refl, sym, ap, ap₂, _∙_}
 use native.Mathlib.Nat.{pow-suc, pow-le-pow-right, lt-of-lt-of-le}
 use native.Mathlib.Numerals.{add-one}
 use native.Mathlib.Omega.{arith}
-use borrow.Author.Tests.{ltb-true, lt-ltb, le-ltb, eq-eqb, ne-eqb, lt-leb, le-leb}
+use borrow.Author.Tests.{ltb-true, lt-ltb, le-ltb, eq-eqb, ne-eqb}
 use lib.Dec.{ltb, eqb, lit<}
 use lib.ListN.{length, getD, take, drop, length-drop}
 use lib.Seq.{take-all, drop-cons, drop-length}
 use Rattle.plan.specs.Limits.{between}
-use Rattle.plan.specs.Plan.{every}
-use Rattle.format.specs.Lines.{isDigit, decimal}
-use Rattle.bools.proofs.Bools.{by-bool, both, and-left, and-right}
-use Rattle.format.proofs.Tests.{chosen-first, chosen-second, between-facts, facts-between}
+use Rattle.base.specs.Lists.{every}
+use Rattle.format.specs.Lines.{isDigit, isSized, decimal}
+use Rattle.base.proofs.Bools.{by-bool, both, and-left, and-right, elim-true, elim-false}
+use Rattle.format.proofs.Tests.{between-facts}
 use Rattle.timetable.specs.Mark.{mark, places}
 use Rattle.timetable.specs.declared.Timetable.{Timetable}
 use Rattle.arguments.specs.declared.Number.{Number}
@@ -23,17 +23,8 @@ use Rattle.arguments.specs.declared.Start.{Start}
 use Rattle.arguments.specs.declared.Start.the-variants.{At, NoStart}
 use Rattle.arguments.specs.declared.Placing.the-variants.{NotAStart}
 use Rattle.arguments.specs.declared.Placed.{Placed}
-use Rattle.arguments.specs.Words.{isSized, isNumber, numberIn, comma, startAt, startBy, startIn, placedAt, placedBy, placedIn, valueIn}
-
--- A size by its test.
-pub several : (k b : ℕ) → 2 ≤ k → k ≤ 10 → not (eqb b 48) ≡ isSized k b
-several k b h l = simp (facts-between 1 10 k (omega arith) l, ne-eqb k 1 (omega arith))
-
-pub under-size : (k b : ℕ) → k < 1 → false ≡ isSized k b
-under-size k b h = simp (lt-leb 1 k h)
-
-pub over-size : (k b : ℕ) → 10 < k → false ≡ isSized k b
-over-size k b h = simp (le-leb 1 k (omega arith), lt-leb k 10 h)
+use Rattle.arguments.specs.Words.{isNumber, numberIn, comma, startAt, startBy, startIn, placedAt, placedBy}
+use Rattle.arguments.specs.Words.{placedIn, valueIn}
 
 -- The value so far, with what is left of the word, is the value of the word.
 pub record Walked (w : List ℕ) (i n : ℕ) : Type 0 where
@@ -65,7 +56,7 @@ module _ (w : List ℕ) (i n : ℕ) (walked : Walked w i n) where
   unfolding valueIn
   walked-stop h e =
       let another : every isDigit (drop i w) ≡ false = rw (drop-cons w i 0, e) in
-      sym (chosen-second (decimal 0 w) (2 ^ 32) (sym (walked .digits) ∙ another))
+      sym (elim-false _ (decimal 0 w) (2 ^ 32) (sym (walked .digits) ∙ another))
 
   pub walked-end : length w ≤ i → n ≡ valueIn w
   unfolding valueIn decimal
@@ -74,17 +65,18 @@ module _ (w : List ℕ) (i n : ℕ) (walked : Walked w i n) where
       let rest : drop i w ≡ [] = ap (λ (k : ℕ). drop k w) whole ∙ drop-length w in
       let all : every isDigit w ≡ true = sym (walked .digits) ∙ ap (every isDigit) rest in
       let value : n ≡ decimal 0 w = sym (ap (decimal n) rest) ∙ walked .value in
-      value ∙ sym (chosen-first (decimal 0 w) (2 ^ 32) all)
+      value ∙ sym (elim-true _ (decimal 0 w) (2 ^ 32) all)
 
 -- A word is a number by its size, its digits and its value.
-module _ (w : List ℕ) (sized : Bool) (is-sized : sized ≡ isSized (length w) (getD w 0 0)) where
+module _ (w : List ℕ) (sized : Bool) (is-sized : sized ≡ isSized 10 (length w) (getD w 0 0)) where
   pub no-size : sized ≡ false → NoNumber ≡ numberIn w
   unfolding numberIn isNumber
-  no-size e = sym (chosen-second {b = isNumber w} (Value (decimal 0 w)) NoNumber (rw (← is-sized, e)))
+  no-size e = sym (elim-false (isNumber w) (Value (decimal 0 w)) NoNumber (rw (← is-sized, e)))
 
   pub few : sized ≡ true → length w ≤ 10
   few e =
-      let fits = and-left (between 1 10 (length w)) (eqb (length w) 1 || not (eqb (getD w 0 0) 48)) (sym is-sized ∙ e) in
+      let fits =
+      and-left (between 1 10 (length w)) (eqb (length w) 1 || not (eqb (getD w 0 0) 48)) (sym is-sized ∙ e) in
       between-facts 1 10 (length w) fits .1
 
   module _ (e : sized ≡ true) (v : ℕ) (is : v ≡ valueIn w) where
@@ -93,29 +85,32 @@ module _ (w : List ℕ) (sized : Bool) (is-sized : sized ≡ isSized (length w) 
     a-number h =
         by-bool (every isDigit w)
         (λ d.
-        let value : v ≡ decimal 0 w = is ∙ chosen-first (decimal 0 w) (2 ^ 32) d in
+        let value : v ≡ decimal 0 w = is ∙ elim-true _ (decimal 0 w) (2 ^ 32) d in
         let small : ltb (decimal 0 w) (2 ^ 32) ≡ true = lt-ltb (decimal 0 w) (2 ^ 32) (omega arith) in
-        ap Value value ∙ sym (chosen-first (Value (decimal 0 w)) NoNumber (both (both (sym is-sized ∙ e) d) small)))
-        (λ d. absurd (omega (arith, is ∙ chosen-second (decimal 0 w) (2 ^ 32) d)))
+        ap Value value ∙ sym (elim-true _ (Value (decimal 0 w)) NoNumber (both (both (sym is-sized ∙ e) d) small)))
+        (λ d. absurd (omega (arith, is ∙ elim-false _ (decimal 0 w) (2 ^ 32) d)))
 
     pub too-large : 2 ^ 32 ≤ v → NoNumber ≡ numberIn w
     unfolding numberIn isNumber valueIn
     too-large h =
         by-bool (every isDigit w)
         (λ d.
-        let value : v ≡ decimal 0 w = is ∙ chosen-first (decimal 0 w) (2 ^ 32) d in
+        let value : v ≡ decimal 0 w = is ∙ elim-true _ (decimal 0 w) (2 ^ 32) d in
         let large : ltb (decimal 0 w) (2 ^ 32) ≡ false = le-ltb (decimal 0 w) (2 ^ 32) (omega arith) in
-        sym (chosen-second {b = isNumber w} (Value (decimal 0 w)) NoNumber (rw (← is-sized, e, d, large))))
-        (λ d. sym (chosen-second {b = isNumber w} (Value (decimal 0 w)) NoNumber (rw (← is-sized, e, d))))
+        sym (elim-false (isNumber w) (Value (decimal 0 w)) NoNumber (rw (← is-sized, e, d, large))))
+        (λ d. sym (elim-false (isNumber w) (Value (decimal 0 w)) NoNumber (rw (← is-sized, e, d))))
 
 -- The place of the first comma.
-pub comma-none : (w : List ℕ) (i : ℕ) → i < length w → (getD w i 0 ≡ 44 → ⊥) → comma (drop i w) ≡ suc (comma (drop (suc i) w))
+pub comma-none : (w : List ℕ) (i : ℕ) → i < length w → (getD w i 0 ≡ 44 → ⊥)
+    → comma (drop i w) ≡ suc (comma (drop (suc i) w))
 unfolding comma
-comma-none w i h n = ap comma (drop-cons w i 0 h) ∙ chosen-second 0 (suc (comma (drop (suc i) w))) (ne-eqb (getD w i 0) 44 n)
+comma-none w i h n =
+    ap comma (drop-cons w i 0 h) ∙ elim-false _ 0 (suc (comma (drop (suc i) w))) (ne-eqb (getD w i 0) 44 n)
 
 pub comma-here : (w : List ℕ) (i : ℕ) → i < length w → getD w i 0 ≡ 44 → comma (drop i w) ≡ 0
 unfolding comma
-comma-here w i h e = ap comma (drop-cons w i 0 h) ∙ chosen-first 0 (suc (comma (drop (suc i) w))) (eq-eqb (getD w i 0) 44 e)
+comma-here w i h e =
+    ap comma (drop-cons w i 0 h) ∙ elim-true _ 0 (suc (comma (drop (suc i) w))) (eq-eqb (getD w i 0) 44 e)
 
 pub comma-past : (w : List ℕ) (i : ℕ) → i ≤ length w → length w ≤ i → comma (drop i w) ≡ 0
 unfolding comma
@@ -125,25 +120,29 @@ comma-past w i h l =
 
 -- An activity and its start, by their limits.
 pub no-activity : (i t : ℕ) → places ≤ i → NoStart ≡ startAt i t
-no-activity i t h = sym (chosen-second {b = ltb i places && ltb t mark} (At i t) NoStart (rw (le-ltb i places h)))
+no-activity i t h = sym (elim-false (ltb i places && ltb t mark) (At i t) NoStart (rw (le-ltb i places h)))
 
 pub marked-start : (i t : ℕ) → i < places → mark ≤ t → NoStart ≡ startAt i t
-marked-start i t h l = sym (chosen-second {b =
-    ltb i places && ltb t mark} (At i t) NoStart (rw (lt-ltb i places h, le-ltb t mark l)))
+marked-start i t h l =
+    sym (elim-false (ltb i places && ltb t mark) (At i t) NoStart (rw (lt-ltb i places h, le-ltb t mark l)))
 
 pub a-start : (i t : ℕ) → i < places → t < mark → At i t ≡ startAt i t
-a-start i t h l = sym (chosen-first {b =
-    ltb i places && ltb t mark} (At i t) NoStart (both (lt-ltb i places h) (lt-ltb t mark l)))
+a-start i t h l =
+    sym (elim-true (ltb i places && ltb t mark) (At i t) NoStart (both (lt-ltb i places h) (lt-ltb t mark l)))
 
 startAt-within : (i t i′ t′ : ℕ) → startAt i t ≡ At i′ t′ → (i′ < places) × (t′ < mark)
 startAt-within i t i′ t′ e =
     by-bool (ltb i places && ltb t mark)
     (λ b.
-    let same : At i t ≡ At i′ t′ = sym (chosen-first (At i t) NoStart b) ∙ e in
+    let same : At i t ≡ At i′ t′ = sym (elim-true _ (At i t) NoStart b) ∙ e in
     let is : i ≡ i′ = cc in
-    let at : t ≡ t′ = cc in
-    (rw (← is) (ltb-true i places (and-left (ltb i places) (ltb t mark) b)), rw (← at) (ltb-true t mark (and-right (ltb i places) (ltb t mark) b))))
-    (λ b. let no-start : NoStart ≡ At i′ t′ = sym (chosen-second (At i t) NoStart b) ∙ e in let z : _≡_ {A = ℕ} 0 1 = cc in absurd (omega arith))
+    let at : t ≡ t′ = cc in (
+      rw (← is) (ltb-true i places (and-left (ltb i places) (ltb t mark) b)),
+      rw (← at)
+          (ltb-true t mark (and-right (ltb i places) (ltb t mark) b)),
+    ))
+    (λ b. let no-start : NoStart ≡ At i′ t′ = sym (elim-false _ (At i t) NoStart b)
+    ∙ e in let z : _≡_ {A = ℕ} 0 1 = cc in absurd (omega arith))
 
 startBy-within : (a b : Number) (i t : ℕ) → startBy a b ≡ At i t → (i < places) × (t < mark)
 startBy-within (Value i) (Value t) i′ t′ e = startAt-within i t i′ t′ e
@@ -156,25 +155,32 @@ unfolding startIn
 start-within w i t e =
     let parts : Start = startBy (numberIn (take (comma w) w)) (numberIn (drop (comma w + 1) w)) in
     by-bool (ltb (comma w) (length w))
-    (λ b. startBy-within (numberIn (take (comma w) w)) (numberIn (drop (comma w + 1) w)) i t (sym (chosen-first parts NoStart b) ∙ e))
-    (λ b. let no-start : NoStart ≡ At i t = sym (chosen-second parts NoStart b) ∙ e in let z : _≡_ {A = ℕ} 0 1 = cc in absurd (omega arith))
+    (λ b. startBy-within (numberIn (take (comma w) w)) (numberIn (drop (comma w + 1) w)) i t
+    (sym (elim-true _ parts NoStart b) ∙ e))
+    (λ b. let no-start : NoStart ≡ At i t = sym (elim-false _ parts NoStart b)
+    ∙ e in let z : _≡_ {A = ℕ} 0 1 = cc in absurd (omega arith))
 
 -- The parts of a word, by the place of its comma.
 pub no-comma : (w : List ℕ) (at : ℕ) → at ≡ comma w → length w ≤ at → NoStart ≡ startIn w
 unfolding startIn
 no-comma w at is h =
-    sym (chosen-second (startBy (numberIn (take (comma w) w)) (numberIn (drop (comma w + 1) w))) NoStart (le-ltb (comma w) (length w) (omega arith)))
+    sym (elim-false _ (startBy (numberIn (take (comma w) w)) (numberIn (drop (comma w + 1) w))) NoStart
+    (le-ltb (comma w) (length w) (omega arith)))
 
 pub both-parts : (w : List ℕ) (at : ℕ) → at ≡ comma w → at < length w → (a b : Number) (s : Start)
-    → a ≡ numberIn (take at w) → b ≡ numberIn (take (length w - (at + 1)) (drop (at + 1) w)) → s ≡ startBy a b → s ≡ startIn w
+    → a ≡ numberIn (take at w) → b ≡ numberIn
+    (take (length w - (at + 1)) (drop (at + 1) w)) → s ≡ startBy a b → s ≡ startIn w
 unfolding startIn
 both-parts w at is h a b s p q e =
     let rest : length (drop (at + 1) w) ≤ length w - (at + 1) = simp length-drop (omega arith) in
-    let whole : b ≡ numberIn (drop (at + 1) w) = q ∙ ap numberIn (take-all (length w - (at + 1)) (drop (at + 1) w) rest) in
+    let whole : b ≡ numberIn (drop (at + 1) w) =
+    q ∙ ap numberIn (take-all (length w - (at + 1)) (drop (at + 1) w) rest) in
     e ∙ ap₂ startBy p whole ∙ ap (λ (k : ℕ). startBy (numberIn (take k w)) (numberIn (drop (k + 1) w))) is
-    ∙ sym (chosen-first (startBy (numberIn (take (comma w) w)) (numberIn (drop (comma w + 1) w))) NoStart (lt-ltb (comma w) (length w) (omega arith)))
+    ∙ sym (elim-true _ (startBy (numberIn (take (comma w) w)) (numberIn (drop (comma w + 1) w))) NoStart
+    (lt-ltb (comma w) (length w) (omega arith)))
 
-pub both-numbers : (a b : Number) (i t : ℕ) (s : Start) → a ≡ Value i → b ≡ Value t → s ≡ startAt i t → s ≡ startBy a b
+pub both-numbers : (a b : Number) (i t : ℕ) (s : Start) → a ≡ Value i → b ≡ Value t → s ≡ startAt i t
+    → s ≡ startBy a b
 both-numbers a b i t s p q e = e ∙ sym (ap₂ startBy p q)
 
 -- A word's start goes into the timetable.

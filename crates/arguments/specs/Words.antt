@@ -1,12 +1,11 @@
 -- Which words of a command line are numbers, which are an activity and its start, and what they say.
 use Prim.Native.Nat.{ℕ, suc, _+_, _^_}
-use mathlib.Core.Bool.{Bool, true, false, not, _&&_, _||_}
+use mathlib.Core.Bool.{Bool, true, false, _&&_}
 use mathlib.Core.List.{List, [], _∷_}
 use lib.Dec.{ltb, eqb}
 use lib.ListN.{length, getD, take, drop, set}
-use Rattle.plan.specs.Limits.{between}
-use Rattle.plan.specs.Plan.{every}
-use Rattle.format.specs.Lines.{isDigit, decimal}
+use Rattle.base.specs.Lists.{every}
+use Rattle.format.specs.Lines.{isDigit, isSized, decimal}
 use Rattle.timetable.specs.Mark.{mark, places}
 use Rattle.timetable.specs.declared.Timetable.{Timetable}
 use Rattle.arguments.specs.declared.Number.{Number}
@@ -16,13 +15,9 @@ use Rattle.arguments.specs.declared.Start.the-variants.{At, NoStart}
 use Rattle.arguments.specs.declared.Placing.the-variants.{Done, Twice, NotAStart}
 use Rattle.arguments.specs.declared.Placed.{Placed}
 
--- One to ten bytes, the first of several not `0`.
-abbrev pub isSized : ℕ → ℕ → Bool
-isSized size first = between 1 10 size && (eqb size 1 || not (eqb first 48))
-
--- A number of 32 bits in decimal digits, with no leading zero and no sign.
+-- A number of 32 bits in one to ten decimal digits, with no leading zero and no sign.
 unfoldable pub isNumber : List ℕ → Bool
-isNumber w = isSized (length w) (getD w 0 0) && every isDigit w && ltb (decimal 0 w) (2 ^ 32)
+isNumber w = isSized 10 (length w) (getD w 0 0) && every isDigit w && ltb (decimal 0 w) (2 ^ 32)
 
 unfoldable pub numberIn : List ℕ → Number
 numberIn w = elim (isNumber w) [ true ↦ Value (decimal 0 w) | false ↦ NoNumber ]

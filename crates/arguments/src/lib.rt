@@ -3,9 +3,10 @@ ghost use Prim.Native.Nat.{_-_, _≤_, _<_};
 ghost use mathlib.Core.Bool.{true};
 ghost use mathlib.Core.Path.{_≡_};
 ghost use lib.ListN.{length, getD};
-ghost use Rattle.format.specs.Lines.{isDigit};
+ghost use Rattle.format.specs.Lines.{isDigit, isSized};
 ghost use Rattle.timetable.specs.Mark.{mark, places};
-ghost use Rattle.arguments.specs.Words.{isSized, numberIn, comma, startAt, startBy, startIn, placedAt, placedIn, valueIn};
+ghost use Rattle.arguments.specs.Words.{numberIn, comma, startAt, startBy, startIn, placedAt, placedIn};
+ghost use Rattle.arguments.specs.Words.{valueIn};
 use timetable::Timetable;
 
 // How many activity numbers there are, and the mark, in the type of a word's number.
@@ -45,7 +46,7 @@ fn first(word: &[u8]) -> u8
 }
 
 fn is_sized(size: usize, first: u8) -> bool
-    ensures { λ r. ⌜ r ≡ isSized size first ⌝ }
+    ensures { λ r. ⌜ r ≡ isSized 10 size first ⌝ }
 {
     match size {
         1 => true,

@@ -1,4 +1,4 @@
--- Two descriptions of one node: the same activities are frozen, at the same starts.
+-- Two descriptions of one state: the same activities are frozen, at the same starts.
 use Prim.Native.Nat.{ℕ, _<_}
 use native.Mathlib.Omega.{arith}
 use mathlib.Core.Bool.{Bool, true}
@@ -10,8 +10,9 @@ use Rattle.schedule.specs.Schedule.{Starts}
 use Rattle.schedule.specs.Sessions.{startsOf}
 use Rattle.schedule.proofs.Load.{among}
 use Rattle.schedule.proofs.Agree.{Agree}
-use Rattle.schedule.proofs.Device.{Bench, InWords, feasible-in-words}
-use Rattle.branching.proofs.Node.{Frozen, Extends, Node, part-bench}
+use Rattle.schedule.proofs.OneUnit.{Bench, feasible-in-words}
+use Rattle.schedule.specs.Words.{InWords}
+use Rattle.branching.proofs.Partial.{Frozen, Extends, Partial, part-bench}
 use Rattle.branching.proofs.Leaves.{Leaves}
 
 pub record Alike (p : Project) (F G : ℕ → Bool) (S R : Starts) : Type 0 where
@@ -28,7 +29,8 @@ module _ (p : Project) (F G : ℕ → Bool) (S R : Starts) (a : Alike p F G S R)
   pub agree-alike : (T : Starts) → Agree (among p F) S T → Agree (among p G) R T
   agree-alike T e i g = sym (a .starts i (back i g)) ∙ e i (back i g)
 
-pub leaves-alike : (p : Project) (F G : ℕ → Bool) (S R : Starts) → Alike p F G S R → (mark : ℕ) (rows : List (List ℕ)) → Leaves p mark F S rows → Leaves p mark G R rows
+pub leaves-alike : (p : Project) (F G : ℕ → Bool) (S R : Starts) → Alike p F G S R → (mark : ℕ) (rows : List (List ℕ))
+    → Leaves p mark F S rows → Leaves p mark G R rows
 leaves-alike p F G S R a mark rows l =
     record {
       session = l .session;
@@ -37,7 +39,8 @@ leaves-alike p F G S R a mark rows l =
       apart = l .apart;
     }
 
-module _ (p : Project) (device : ℕ → ℕ) (F G : ℕ → Bool) (S R : Starts) (bench : Bench p device) (a : Alike p F G S R) (n : Node p device F S) where
+module _ (p : Project) (resource : ℕ → ℕ) (F G : ℕ → Bool) (S R : Starts) (bench : Bench p resource)
+    (a : Alike p F G S R) (n : Partial p resource F S) where
   old : (i : ℕ) → Frozen p G i → Frozen p F i
   old = back p F G S R a
 
@@ -48,13 +51,20 @@ module _ (p : Project) (device : ℕ → ℕ) (F G : ℕ → Bool) (S R : Starts
   inside : (i : ℕ) → i < p .size → G i ≡ true → p .present i ≡ true
   inside i l y = n .inside i l (a .sets i l ∙ y)
 
-  words : InWords (among p F) device S
-  words = feasible-in-words (among p F) device S (part-bench p device F (n .inside) bench) .0 (n .fits)
+  words : InWords (among p F) resource S
+  words = feasible-in-words (among p F) resource S (part-bench p resource F (n .inside) bench) .0 (n .fits)
 
-  words-alike : InWords (among p G) device R
+  words-alike : InWords (among p G) resource R
   words-alike =
       record {
-        after = λ i j f g o. omega (arith, a .starts i (old i f), a .starts j (old j g), words .after i j (old i f) (old j g) o);
+        after =
+            λ i j f g o. omega (
+              arith,
+              a .starts i (old i f),
+              a .starts j (old j g),
+              words .after i j (old i f)
+                  (old j g) o,
+            );
         apart =
             λ i j f g ne e.
             ⊎-elim
@@ -63,14 +73,19 @@ module _ (p : Project) (device : ℕ → ℕ) (F G : ℕ → Bool) (S R : Starts
             (words .apart i j (old i f) (old j g) ne e);
       }
 
-  pub node-alike : Node p device G R
-  node-alike =
+  pub state-alike : Partial p resource G R
+  state-alike =
       record {
         inside = inside;
         closed = λ i j h g o. sym (a .sets i (h .below)) ∙ n .closed i j h (old j g) o;
-        fits = feasible-in-words (among p G) device R (part-bench p device G inside bench) .1 words-alike;
+        fits = feasible-in-words (among p G) resource R (part-bench p resource G inside bench) .1 words-alike;
         behind =
             λ T x i k g h z e.
-            omega (arith, a .starts i (old i g), n .behind T (old-extends T x) i k (old i g) h (a .sets k (h .below) ∙ z) e);
+            omega (
+              arith,
+              a .starts i (old i g),
+              n .behind T (old-extends T x) i k (old i g) h (a .sets k (h .below)
+                  ∙ z) e,
+            );
         stuck = λ T x k t g l m. n .stuck T (old-extends T x) k t (old k g) (omega (arith, a .starts k (old k g))) m;
       }

@@ -6,7 +6,7 @@ use native.Mathlib.Omega.{arith}
 use mathlib.Core.Bool.{Bool, true, false}
 use mathlib.Core.Path.{_≡_, ap, sym, _∙_}
 use mathlib.Core.Logic.{_⊎_, inl, inr, ⊎-elim, by-cases}
-use Rattle.bools.proofs.Bools.{by-bool, true-not-false}
+use Rattle.base.proofs.Bools.{by-bool, true-not-false}
 
 pub record First (n : ℕ) (test : ℕ → Bool) (cost : ℕ → ℕ) : Type 0 where
   pub who : ℕ

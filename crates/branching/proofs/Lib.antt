@@ -1,6 +1,6 @@
--- The search by one freeze at a time: its nodes, its branches, and the list of its leaves.
+-- The search by one freeze at a time: its states, its branches, and the list of its leaves.
 pub mod First
-pub mod Node
+pub mod Partial
 pub mod Rank
 pub mod Tick
 pub mod Child

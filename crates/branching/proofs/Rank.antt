@@ -3,19 +3,20 @@ use Prim.Native.Nat.{ℕ}
 use native.Mathlib.Omega.{arith}
 use mathlib.Core.Bool.{true, cond, _&&_}
 use mathlib.Core.Path.{_≡_}
-use Rattle.schedule.specs.Below.{sumBelow}
+use Rattle.base.specs.Below.{sumBelow}
 use Rattle.schedule.specs.Project.{Project}
-use Rattle.bools.proofs.Bools.{by-bool, both, and-left, and-right, cond-true, cond-false}
-use Rattle.schedule.proofs.Below.{cond-mono, sum-le-but}
+use Rattle.base.proofs.Bools.{by-bool, both, and-left, and-right, cond-true, cond-false}
+use Rattle.base.proofs.Below.{cond-mono, sum-le-but}
 use Rattle.schedule.proofs.Load.{Has}
-use Rattle.branching.proofs.Node.{Ranked}
+use Rattle.branching.proofs.Partial.{Ranked}
 
 abbrev pub before : Project → ℕ → ℕ
 before p j = sumBelow (p .size) λ k. cond (p .present k && p .precedes k j) 1 0
 
 pub before-ranks : (p : Project)
     → ((i : ℕ) → Has p i → p .precedes i i ≡ true → ⊥)
-    → ((i j k : ℕ) → Has p i → Has p j → Has p k → p .precedes i j ≡ true → p .precedes j k ≡ true → p .precedes i k ≡ true)
+    → ((i j k : ℕ) → Has p i → Has p j → Has p k → p .precedes i j ≡ true → p .precedes j k ≡ true → p .precedes i k
+    ≡ true)
     → Ranked p (before p)
 before-ranks p irreflexive transitive i j hi hj o =
     let one : ℕ = 1 in

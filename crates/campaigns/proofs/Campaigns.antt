@@ -4,46 +4,49 @@ use mathlib.Core.List.{List, [], _∷_, _++_, List·Memᴰ, List·Memᴰ·cases-
 use mathlib.Core.Logic.{⊎-elim}
 use mathlib.Core.Path.{_≡_, refl, sym, ap, subst, _∙_}
 use lib.ListN.{length, drop}
-use Rattle.plan.specs.Plan.{every}
-use Rattle.bools.proofs.Bools.{and-left, and-right}
+use Rattle.base.specs.Lists.{every, gather}
+use Rattle.base.proofs.Bools.{and-left, and-right}
 use Rattle.format.specs.Parse.{parse, planLines, aLine, theLines, theEnd}
-use Rattle.format.specs.Lines.{found, digits, isValue, decimal}
-use Rattle.term.specs.Term.{termOf, forest, place, size, firsts, others}
-use Rattle.term.specs.Variants.{activities, member, some-of}
+use Rattle.format.specs.Lines.{matched, digits, isValue, decimal, filled}
+use Rattle.term.specs.Term.{termOf, forest, place, size, firsts, others, nodes}
+use Rattle.term.specs.Variants.{activities, member, some-of, twice, repeats, variants, paired, variantCount}
 use Rattle.term.specs.Clash.{clash, share}
-use Rattle.term.proofs.Model.{count}
-use Rattle.read.specs.Judge.{judge}
+use Rattle.term.specs.Model.{count}
+use Rattle.judge.specs.Judge.{judge}
 use Rattle.read.proofs.Model.{readBy, read-by}
 use Rattle.format.specs.Lines
-use Rattle.format.specs.Lines.{filled}
 use Rattle.format.specs.Text.{text, actLines, nodeLines}
-use Rattle.term.specs.Term.{nodes}
-use Rattle.term.specs.Variants.{twice, repeats, variants, paired, variantCount}
-use Rattle.schedule.specs.Below.{everyBelow, sumBelow, maxBelow}
+use Rattle.base.specs.Below.{everyBelow, sumBelow, maxBelow}
 use Rattle.schedule.specs.Schedule.{feasible, placed, inOrder, withinCapacity, load, latestEnd}
 use Rattle.variant.specs.Precedence.{precedes}
 use Rattle.variant.specs.Project.{projectOf}
 use Rattle.variant.specs.Written.{written, variantPlan, dissolved, joined}
-use Rattle.sessions.specs.Timetable.{isSession, isMarked}
+use Rattle.variant.specs.Timetable.{isSession, isMarked}
 use Rattle.write.specs.Answer.{writeOf}
 use Rattle.write.specs.declared.WriteAnswer.the-variants.{Written}
 use Rattle.inspect.specs.Answer.{checkOf}
-use Rattle.campaigns.specs.Table.{Row, reads, has-variants, writes, checks, counts, lists, spans, finds, stops, Holds, table, lent}
-use Rattle.schedule.specs.Sessions.{gather}
+use Rattle.campaigns.specs.Table.{Row, reads, has-variants, writes, checks, counts, lists, spans, finds, stops}
+use Rattle.campaigns.specs.Table.{Holds, table, lent}
 use Rattle.sets.specs.Sets
 use Rattle.sets.specs.Sets.{has, meet}
-use Rattle.scan.proofs.Model.{leastBelow, ready, earliest, finish, isOpen, keyOf, key, isChoice, freeze, branches, leaves, root, scanned, startOf, starts}
-use Rattle.seam.proofs.Posed.{setOf, problemOf, presentOf}
-use Rattle.campaigns.proofs.Searched.{total, countModel, count-is, listModel, list-is, spansModel, hasModel, spans-is}
+use Rattle.scan.specs.Model.{leastBelow, ready, earliest, finish, isOpen, keyOf, key, isChoice, freeze, branches}
+use Rattle.scan.specs.Model.{problemOf, leaves, root, scanned, startOf, starts}
+use Rattle.variant.specs.Tables.{setOf, tablesOf}
+use Rattle.campaigns.proofs.Searched.{total, countModel, count-is, listModel, list-is, spansModel, hasModel}
+use Rattle.campaigns.proofs.Searched.{spans-is}
 use Rattle.campaigns.proofs.Variants.{variantsBy, variants-are}
-use Rattle.campaigns.proofs.Shortest.{shown, refused, sameShown, shown-same, AnswersAs, bestModel, best-is, shortestSpan, shortestVariants}
-use Rattle.campaigns.proofs.Tests.{sameNumber, number-same, sameList, list-same, sameCount, count-same, sameListing, listing-same, sameRead, read-same, sameOutcome, outcome-same, sameCheck, check-same}
+use Rattle.campaigns.proofs.Shortest.{shown, refused, sameShown, shown-same, AnswersAs, bestModel, best-is}
+use Rattle.campaigns.proofs.Shortest.{shortestSpan, shortestVariants}
+use Rattle.campaigns.proofs.Tests.{sameNumber, number-same, sameList, list-same, sameCount, count-same}
+use Rattle.campaigns.proofs.Tests.{sameListing, listing-same, sameRead, read-same, sameOutcome, outcome-same}
+use Rattle.campaigns.proofs.Tests.{sameCheck, check-same}
 
 abbrev test : Row → Bool
 test (reads s answer) = sameRead (readBy s) answer
 test (has-variants s n) = sameNumber (variantsBy s) n
 test (writes s v bytes) =
-    sameOutcome (writeOf s v lent) (record { answer = Written (length bytes); area = bytes ++ drop (length bytes) lent })
+    sameOutcome (writeOf s v lent)
+    (record { answer = Written (length bytes); area = bytes ++ drop (length bytes) lent })
 test (checks s v starts answer) = sameCheck (checkOf s v starts) answer
 test (counts s cap answer) = sameCount (countModel s cap) answer
 test (lists s cap cells answer) = sameListing (listModel s cap cells) answer
@@ -63,14 +66,21 @@ test-holds (lists s cap cells answer) e =
     ∙ ap (listModel s cap) size
     ∙ listing-same (listModel s cap cells) answer e
 test-holds (spans s v makespans) e =
-    spans-is s v makespans (and-left (hasModel s v) _ e) (list-same (spansModel s v) makespans (and-right (hasModel s v) _ e))
+    spans-is s v makespans (and-left (hasModel s v) _ e)
+    (list-same (spansModel s v) makespans (and-right (hasModel s v) _ e))
 test-holds (finds s cap variants span count) e =
     λ best given. subst (λ x. AnswersAs x best) (shown-same (bestModel s cap) _ e) (best-is s cap best given)
 test-holds (stops s cap r) e =
     λ best given. subst (λ x. AnswersAs x best) (shown-same (bestModel s cap) _ e) (best-is s cap best given)
 
 all-pass : every test table ≡ true
-unfolding table readBy variantsBy parse planLines aLine theLines theEnd found digits isValue decimal termOf forest place size firsts others activities member some-of count clash share writeOf checkOf judge twice repeats variants paired variantCount written variantPlan dissolved joined text actLines nodeLines filled Lines.written nodes isSession isMarked feasible placed inOrder withinCapacity load latestEnd everyBelow sumBelow maxBelow projectOf precedes countModel listModel spansModel hasModel bestModel shortestSpan shortestVariants total problemOf presentOf setOf gather scanned leaves branches root freeze isChoice key keyOf leastBelow isOpen finish earliest ready Sets.size has meet starts startOf
+unfolding table readBy variantsBy parse planLines aLine theLines theEnd matched digits isValue decimal termOf forest
+    place size firsts others activities member some-of count clash share writeOf checkOf judge twice repeats
+    variants paired variantCount written variantPlan dissolved joined text actLines nodeLines filled Lines.numeral
+    nodes isSession isMarked feasible placed inOrder withinCapacity load latestEnd everyBelow sumBelow maxBelow
+    projectOf precedes countModel listModel spansModel hasModel bestModel shortestSpan shortestVariants total
+    problemOf tablesOf setOf gather scanned leaves branches root freeze isChoice key keyOf leastBelow isOpen finish
+    earliest ready Sets.size has meet starts startOf
 all-pass = refl
 
 every-of : (xs : List Row) → every test xs ≡ true → (row : Row) → List·Memᴰ row xs → test row ≡ true

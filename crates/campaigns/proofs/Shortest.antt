@@ -4,7 +4,8 @@ use Prim.Native.Nat.{ℕ, _≤_, _<_, min}
 use native.Mathlib.Nat.{le-antisymm}
 use native.Mathlib.Omega.{arith}
 use mathlib.Core.Bool.{Bool, true, false, false≢true, cond, _&&_}
-use mathlib.Core.List.{List, [], _∷_, map, List·Memᴰ, List·Memᴰ·head, List·Memᴰ·tail, List·Memᴰ·not-nil, List·Memᴰ·cases-cons, List·Memᴰ·eq-of-singleton, Memᴰ·map, Memᴰ·of-map, Memᴰ·cast}
+use mathlib.Core.List.{List, [], _∷_, map, List·Memᴰ, List·Memᴰ·head, List·Memᴰ·tail, List·Memᴰ·not-nil}
+use mathlib.Core.List.{List·Memᴰ·cases-cons, List·Memᴰ·eq-of-singleton, Memᴰ·map, Memᴰ·of-map, Memᴰ·cast}
 use mathlib.Core.Logic.{⊎-elim}
 use mathlib.Core.Path.{_≡_, refl, sym, ap, ap₂, _∙_, subst}
 use borrow.Author.Tests.{eqb-true, eq-eqb}
@@ -12,30 +13,32 @@ use lib.Dec.{eqb, leb}
 use Rattle.plan.specs.Plan.{Plan}
 use Rattle.plan.specs.declared.Refusal.{Refusal}
 use Rattle.plan.specs.declared.Refusal.the-variants.{OverCap}
-use Rattle.bools.proofs.Bools.{and-left, and-right}
+use Rattle.base.proofs.Bools.{and-left, and-right}
 use Rattle.term.specs.Term.{Term}
 use Rattle.term.specs.Variants.{variantCount}
 use Rattle.timetable.specs.Mark.{places}
 use Rattle.schedule.specs.Schedule.{feasible}
-use Rattle.schedule.specs.Sessions.{startsOf, gather}
+use Rattle.schedule.specs.Sessions.{startsOf}
+use Rattle.base.specs.Lists.{gather}
 use Rattle.schedule.proofs.Reflect.{feasible-is, feasible-of}
-use Rattle.schedule.proofs.Lists.{gather-is, gather-mem}
-use Rattle.scan.proofs.Model.{Problem, scanned, starts}
-use Rattle.complete.proofs.Found.{latest}
+use Rattle.base.proofs.Lists.{gather-is, gather-mem}
+use Rattle.scan.specs.Model.{starts, scanOf, problemOf, lastEnd}
 use Rattle.variant.specs.Project.{projectOf, variantAt}
-use Rattle.sessions.specs.Timetable.{isMarked, isSession}
-use Rattle.read.specs.Judge.{Verdict, accepts, refuses, judge}
-use Rattle.read.specs.Valid.{Valid}
-use Rattle.read.proofs.Accepts.{accepted-valid}
-use Rattle.listing.specs.Shortest.{Shortest, BestOf, BestBy, BestOfPairs}
-use Rattle.listing.specs.declared.Best.{Best}
-use Rattle.listing.specs.declared.BestAnswer.the-variants.{Found, Refused}
-use Rattle.seam.proofs.Posed.{problemOf, presentOf, posed}
-use Rattle.seam.proofs.Variant.{chosen}
-use Rattle.seam.proofs.Found.{variant-active, variant-makespan, variant-short}
-use Rattle.seam.proofs.Pairs.{pair-is, shortest-checks}
+use Rattle.variant.specs.Timetable.{isMarked, isSession}
+use Rattle.judge.specs.Judge.{Verdict, accepts, refuses, judge}
+use Rattle.term.specs.Valid.{Valid}
+use Rattle.judge.proofs.Accepts.{accepted-valid}
+use Rattle.answers.specs.Shortest.{Shortest, BestOf, BestBy, BestOfPairs}
+use Rattle.answers.specs.declared.Best.{Best}
+use Rattle.answers.specs.declared.BestAnswer.the-variants.{Found, Refused}
+use Rattle.variant.specs.Tables.{tablesOf}
+use Rattle.variant.proofs.Tables.{tables-hold}
+use Rattle.plan_exact.proofs.Variant.{chosen}
+use Rattle.plan_exact.proofs.Found.{variant-active, variant-makespan, variant-short}
+use Rattle.plan_exact.proofs.Pairs.{pair-is, shortest-checks}
 use Rattle.campaigns.proofs.Searched.{total, total-is}
 use Rattle.campaigns.proofs.Tests.{sameList, list-same, sameRefusal, refusal-same}
+use Rattle.variant.specs.declared.Variant.{Variant}
 
 -- The least number of a list.
 abbrev leastOf : List ℕ → ℕ
@@ -60,7 +63,7 @@ least-is (x ∷ xs) a m h = le-antisymm (least-below (x ∷ xs) a m) (least-abov
 
 -- The makespans of variant v, the least of all variants, and the variants that have it.
 abbrev spansOf : Plan → Term → ℕ → List ℕ
-spansOf p t v = map latest (scanned (problemOf p (variantAt t v)) (presentOf (variantAt t v)))
+spansOf p t v = map lastEnd (scanOf (tablesOf p (variantAt t v)))
 
 unfoldable pub shortestSpan : Plan → Term → ℕ
 shortestSpan p t = leastOf (gather (variantCount t) (spansOf p t))
@@ -72,53 +75,54 @@ unfoldable pub shortestVariants : Plan → Term → ℕ → List ℕ
 shortestVariants p t span = gather (variantCount t) (ifShortest p t span)
 
 -- A shortest session is as long as the least that is computed, in one of the variants computed.
-module _ (p : Plan) (t : Term) (valid : Valid p t) (v span : ℕ) (row : List ℕ) (shortest : Shortest p t v span row) where
-  below : v < variantCount t
-  below = pair-is p t v _ (shortest .one-of) .below
+module _ (p : Plan) (t : Term) (valid : Valid p t) (v span : ℕ) (row : List ℕ) (shortest : Shortest p t v span row)
+  where
+    below : v < variantCount t
+    below = pair-is p t v _ (shortest .one-of) .below
 
-  -- No makespan that is computed is less,
-  none-less : (u : ℕ) → u < variantCount t → (a : ℕ) → List·Memᴰ a (spansOf p t u) → span ≤ a
-  none-less u l a m =
-      let q : Problem = problemOf p (variantAt t u) in
-      let present : ℕ = presentOf (variantAt t u) in
-      let c = chosen p t u valid l in
-      let (ends, n, e) = Memᴰ·of-map latest (scanned q present) m in
-      let S = startsOf (starts q places ends) in
-      let active = variant-active p t u c q present (posed p t u c) ends n in
-      omega (
-        arith,
-        e,
-        variant-makespan p t u c q present (posed p t u c) ends n,
-        shortest .least u S (l, feasible-of (projectOf p (variantAt t u)) S (active .is-feasible)),
-      )
+    -- No makespan that is computed is less,
+    none-less : (u : ℕ) → u < variantCount t → (a : ℕ) → List·Memᴰ a (spansOf p t u) → span ≤ a
+    none-less u l a m =
+        let x : Variant = tablesOf p (variantAt t u) in
+        let c = chosen p t u valid l in
+        let (ends, n, e) = Memᴰ·of-map lastEnd (scanOf x) m in
+        let S = startsOf (starts (problemOf x) places ends) in
+        let active = variant-active p t u c x (tables-hold p t u c) ends n in
+        omega (
+          arith,
+          e,
+          variant-makespan p t u c x (tables-hold p t u c) ends n,
+          shortest .least u S (l, feasible-of (projectOf p (variantAt t u)) S (active .is-feasible)),
+        )
 
-  is-feasible : feasible (projectOf p (variantAt t v)) (startsOf row) ≡ true
-  unfolding isSession
-  is-feasible = and-right (isMarked (variantAt t v) row) _ (shortest-checks p t valid v span row shortest)
+    is-feasible : feasible (projectOf p (variantAt t v)) (startsOf row) ≡ true
+    unfolding isSession
+    is-feasible = and-right (isMarked (variantAt t v) row) _ (shortest-checks p t valid v span row shortest)
 
-  -- and one of the variant's own is the same.
-  own : List·Memᴰ span (spansOf p t v)
-  own =
-      let q : Problem = problemOf p (variantAt t v) in
-      let present : ℕ = presentOf (variantAt t v) in
-      let c = chosen p t v valid below in
-      let P = projectOf p (variantAt t v) in
-      let (ends, n, e) = variant-short p t v c q present (posed p t v c) (startsOf row) (feasible-is P (startsOf row) is-feasible) in
-      let m = Memᴰ·map latest n in
-      Memᴰ·cast (le-antisymm (none-less v below (latest ends) m) (omega (arith, shortest .its-own))) m
+    -- and one of the variant's own is the same.
+    own : List·Memᴰ span (spansOf p t v)
+    own =
+        let x : Variant = tablesOf p (variantAt t v) in
+        let c = chosen p t v valid below in
+        let P = projectOf p (variantAt t v) in
+        let (ends, n, e) =
+        variant-short p t v c x (tables-hold p t v c) (startsOf row) (feasible-is P (startsOf row) is-feasible) in
+        let m = Memᴰ·map lastEnd n in
+        Memᴰ·cast (le-antisymm (none-less v below (lastEnd ends) m) (omega (arith, shortest .its-own))) m
 
-  span-is : shortestSpan p t ≡ span
-  unfolding shortestSpan
-  span-is =
-      least-is (gather (variantCount t) (spansOf p t)) span
-      (gather-mem (variantCount t) (spansOf p t) v below own)
-      (λ a m. let (u, l, n) = gather-is (variantCount t) (spansOf p t) m in none-less u l a n)
+    span-is : shortestSpan p t ≡ span
+    unfolding shortestSpan
+    span-is =
+        least-is (gather (variantCount t) (spansOf p t)) span
+        (gather-mem (variantCount t) (spansOf p t) v below own)
+        (λ a m. let (u, l, n) = gather-is (variantCount t) (spansOf p t) m in none-less u l a n)
 
-  variant-in : List·Memᴰ v (shortestVariants p t span)
-  unfolding shortestVariants
-  variant-in =
-      let same : eqb (leastOf (spansOf p t v)) span ≡ true = eq-eqb _ _ (least-is (spansOf p t v) span own (none-less v below)) in
-      gather-mem (variantCount t) (ifShortest p t span) v below (rw same (List·Memᴰ·head refl))
+    variant-in : List·Memᴰ v (shortestVariants p t span)
+    unfolding shortestVariants
+    variant-in =
+        let same : eqb (leastOf (spansOf p t v)) span ≡ true =
+        eq-eqb _ _ (least-is (spansOf p t v) span own (none-less v below)) in
+        gather-mem (variantCount t) (ifShortest p t span) v below (rw same (List·Memᴰ·head refl))
 
 -- What BEST shows: variants of which its own is one, its makespan and COUNT's number; or a refusal.
 pub data Shown : Type 0 where
@@ -157,17 +161,20 @@ bestVerdict (refuses r) cap = refused r
 unfoldable pub bestModel : List ℕ → ℕ → Shown
 bestModel s cap = bestVerdict (judge s) cap
 
-best-within : (b : Bool) (p : Plan) (t : Term) → Valid p t → (best : Best) → BestOfPairs b p t best → AnswersAs (shownWithin b p t) best
+best-within : (b : Bool) (p : Plan) (t : Term) → Valid p t → (best : Best) → BestOfPairs b p t best
+    → AnswersAs (shownWithin b p t) best
 best-within true p t valid best h =
     let v : ℕ = h .variant in
     let span = span-is p t valid v (h .span) _ (h .shortest) in (
       v,
-      subst (λ (n : ℕ). List·Memᴰ v (shortestVariants p t n)) (sym span) (variant-in p t valid v (h .span) _ (h .shortest)),
+      subst (λ (n : ℕ). List·Memᴰ v (shortestVariants p t n)) (sym span)
+          (variant-in p t valid v (h .span) _ (h .shortest)),
       h .answer ∙ ap₂ (Found v) (sym span) (total-is p t valid),
     )
 best-within false p t valid best h = h .0
 
-best-verdict : (s : List ℕ) (cap : ℕ) (best : Best) (o : Verdict) → judge s ≡ o → BestBy o cap best → AnswersAs (bestVerdict o cap) best
+best-verdict : (s : List ℕ) (cap : ℕ) (best : Best) (o : Verdict) → judge s ≡ o → BestBy o cap best
+    → AnswersAs (bestVerdict o cap) best
 best-verdict s cap best (accepts p t) e h =
     let valid = accepted-valid s p t e .0 in
     best-within (leb (total p t) cap) p t valid best

@@ -9,17 +9,18 @@ use borrow.Author.Tests.{eqb-true}
 use lib.Dec.{eqb}
 use Rattle.plan.specs.Refusals.{numberOf, figureOf}
 use Rattle.plan.specs.declared.Refusal.{Refusal}
-use Rattle.plan.specs.declared.Refusal.the-variants.{Length, Form, Range, NotOneTerm, Twice, TooManyVariants, NoSuchVariant, OverCap, AreaTooShort}
+use Rattle.plan.specs.declared.Refusal.the-variants.{Length, Form, Range, NotOneTerm, Twice, TooManyVariants}
+use Rattle.plan.specs.declared.Refusal.the-variants.{NoSuchVariant, OverCap, AreaTooShort}
 use Rattle.read.specs.declared.ReadAnswer.{ReadAnswer}
 use Rattle.read.specs.declared.ReadAnswer.the-variants.{Read, Refused}
-use Rattle.bools.proofs.Bools.{and-left, and-right}
+use Rattle.base.proofs.Bools.{and-left, and-right}
 use Rattle.write.specs.Answer.{Outcome}
 use Rattle.write.specs.declared.WriteAnswer.{WriteAnswer}
 use Rattle.write.specs.declared.WriteAnswer.the-variants as Write
-use Rattle.listing.specs.declared.CountAnswer.{CountAnswer}
-use Rattle.listing.specs.declared.CountAnswer.the-variants as Count
-use Rattle.listing.specs.declared.ListAnswer.{ListAnswer}
-use Rattle.listing.specs.declared.ListAnswer.the-variants as Listing
+use Rattle.answers.specs.declared.CountAnswer.{CountAnswer}
+use Rattle.answers.specs.declared.CountAnswer.the-variants as Count
+use Rattle.answers.specs.declared.ListAnswer.{ListAnswer}
+use Rattle.answers.specs.declared.ListAnswer.the-variants as Listing
 use Rattle.inspect.specs.declared.CheckAnswer.{CheckAnswer}
 use Rattle.inspect.specs.declared.CheckAnswer.the-variants as Check
 

@@ -9,7 +9,8 @@ use mathlib.Core.Path.{_≡_}
 use lib.Dec.{eqb}
 use lib.ListN.{length, drop, replicate}
 use Rattle.plan.specs.declared.Refusal.{Refusal}
-use Rattle.plan.specs.declared.Refusal.the-variants.{Range, Form, Twice, TooManyVariants, NoSuchVariant, OverCap, AreaTooShort}
+use Rattle.plan.specs.declared.Refusal.the-variants.{Range, Form, Twice, TooManyVariants, NoSuchVariant, OverCap}
+use Rattle.plan.specs.declared.Refusal.the-variants.{AreaTooShort}
 use Rattle.plan.specs.Plan.{Plan}
 use Rattle.format.specs.Parse.{parse, holds}
 use Rattle.term.specs.Term.{Term, termOf}
@@ -17,19 +18,19 @@ use Rattle.term.specs.Variants.{variantCount}
 use Rattle.schedule.specs.Schedule.{makespan}
 use Rattle.schedule.specs.Sessions.{sessions, startsOf}
 use Rattle.variant.specs.Project.{projectOf, variantAt}
-use Rattle.read.specs.Judge.{accepts, judge}
-use Rattle.listing.specs.Count.{countOf}
-use Rattle.listing.specs.Listed.{ListOf}
-use Rattle.listing.specs.Shortest.{BestOf}
-use Rattle.listing.specs.declared.Best.{Best}
-use Rattle.listing.specs.declared.BestAnswer.the-variants.{Found}
-use Rattle.listing.specs.declared.BestAnswer.the-variants as BestAnswers
-use Rattle.listing.specs.declared.CountAnswer.{CountAnswer}
-use Rattle.listing.specs.declared.CountAnswer.the-variants.{Counted}
-use Rattle.listing.specs.declared.CountAnswer.the-variants as CountAnswers
-use Rattle.listing.specs.declared.ListAnswer.{ListAnswer}
-use Rattle.listing.specs.declared.ListAnswer.the-variants.{Listed}
-use Rattle.listing.specs.declared.ListAnswer.the-variants as ListAnswers
+use Rattle.judge.specs.Judge.{accepts, judge}
+use Rattle.answers.specs.Count.{countOf}
+use Rattle.answers.specs.Listed.{ListOf}
+use Rattle.answers.specs.Shortest.{BestOf}
+use Rattle.answers.specs.declared.Best.{Best}
+use Rattle.answers.specs.declared.BestAnswer.the-variants.{Found}
+use Rattle.answers.specs.declared.BestAnswer.the-variants as BestAnswers
+use Rattle.answers.specs.declared.CountAnswer.{CountAnswer}
+use Rattle.answers.specs.declared.CountAnswer.the-variants.{Counted}
+use Rattle.answers.specs.declared.CountAnswer.the-variants as CountAnswers
+use Rattle.answers.specs.declared.ListAnswer.{ListAnswer}
+use Rattle.answers.specs.declared.ListAnswer.the-variants.{Listed}
+use Rattle.answers.specs.declared.ListAnswer.the-variants as ListAnswers
 use Rattle.read.specs.Answer.{readOf}
 use Rattle.read.specs.declared.ReadAnswer.{ReadAnswer}
 use Rattle.read.specs.declared.ReadAnswer.the-variants.{Read, Refused}
@@ -90,7 +91,8 @@ pub record Spans (s : List ℕ) (v : ℕ) (makespans : List ℕ) : Type 0 where
   pub within : v < variantCount term
   pub same :
       Perm
-      (map (λ row. makespan (projectOf plan (variantAt term v)) (startsOf row)) (sessions (projectOf plan (variantAt term v)) mark))
+      (map (λ row. makespan (projectOf plan (variantAt term v)) (startsOf row))
+      (sessions (projectOf plan (variantAt term v)) mark))
       makespans
 
 -- What a row says of the definitions.
@@ -102,7 +104,8 @@ Holds (writes s v bytes) =
 Holds (checks s v starts answer) = checkOf s v starts ≡ answer
 Holds (counts s cap answer) = countOf s cap ≡ answer
 Holds (lists s cap cells answer) =
-    (before after : List ℕ) (given : ListAnswer) → length before ≡ cells → ListOf s cap before given after → given ≡ answer
+    (before after : List ℕ) (given : ListAnswer) → length before ≡ cells → ListOf s cap before given after
+    → given ≡ answer
 Holds (spans s v makespans) = Spans s v makespans
 Holds (finds s cap variants span count) =
     (best : Best) → BestOf s cap best → (v : ℕ) × List·Memᴰ v variants × (best .answer ≡ Found v span count)
@@ -121,8 +124,8 @@ twiceUnderP = file "plan=1/res=1/acts=1/act=0,1/nodes=3/node=p,2/node=a,0/node=a
 abbrev pub twoContested : List ℕ
 twoContested = file "plan=1/res=2/acts=4/act=0,1/act=0,1/act=1,1/act=1,1/nodes=5/node=p,4/node=a,0/node=a,1/node=a,2/node=a,3"
 
-abbrev pub freeDeviceWaits : List ℕ
-freeDeviceWaits = file "plan=1/res=2/acts=4/act=0,10/act=1,1/act=0,1/act=1,20/nodes=6/node=p,2/node=a,0/node=s,3/node=a,1/node=a,2/node=a,3"
+abbrev pub freeResourceWaits : List ℕ
+freeResourceWaits = file "plan=1/res=2/acts=4/act=0,10/act=1,1/act=0,1/act=1,20/nodes=6/node=p,2/node=a,0/node=s,3/node=a,1/node=a,2/node=a,3"
 
 abbrev pub example2 : List ℕ
 example2 = file "plan=1/res=4/acts=8/act=0,1/act=1,2/act=2,2/act=1,1/act=0,1/act=0,2/act=3,1/act=1,2/nodes=13/node=p,4/node=s,2/node=p,2/node=a,0/node=a,1/node=a,2/node=s,2/node=a,3/node=a,4/node=a,5/node=s,2/node=a,6/node=a,7"
@@ -155,7 +158,7 @@ table =
     -- Activity 0 twice, under an x and under a p.
     ∷ reads twiceUnderX (Read 1 3 2)
     ∷ reads twiceUnderP (Refused Twice)
-    -- p over twelve x of two distinct activities, and with one of an x's two activities named there a second time: 6144.
+    -- p over twelve x of two distinct activities, and with one of an x's two activities named there once more: 6144.
     ∷ reads twelveChoices (Read 24 37 4096)
     ∷ has-variants twelveChoices 4096
     ∷ reads oneChoiceMore (Refused TooManyVariants)
@@ -164,14 +167,20 @@ table =
     ∷ writes dotTest 0 (file "plan=1/res=3/acts=5/act=0,4/act=1,2/act=1,3/act=2,5/act=1,6/nodes=5/node=s,2/node=a,0/node=p,2/node=a,3/node=a,4")
     ∷ checks dotTest 2 (timetable []) (CheckAnswers.Refused NoSuchVariant)
     -- An s in an s through a picked x is dissolved, and an s in a p is not.
-    ∷ writes (file "plan=1/res=1/acts=4/act=0,1/act=0,1/act=0,1/act=0,1/nodes=7/node=s,2/node=x,2/node=s,2/node=a,0/node=a,1/node=a,2/node=a,3") 0 (file "plan=1/res=1/acts=4/act=0,1/act=0,1/act=0,1/act=0,1/nodes=4/node=s,3/node=a,0/node=a,1/node=a,3")
-    ∷ writes (file "plan=1/res=1/acts=2/act=0,1/act=0,1/nodes=4/node=p,2/node=s,1/node=a,0/node=a,1") 0 (file "plan=1/res=1/acts=2/act=0,1/act=0,1/nodes=4/node=p,2/node=s,1/node=a,0/node=a,1")
+    ∷ writes (file "plan=1/res=1/acts=4/act=0,1/act=0,1/act=0,1/act=0,1/nodes=7/node=s,2/node=x,2/node=s,2/node=a,0/node=a,1/node=a,2/node=a,3") 0
+    (file "plan=1/res=1/acts=4/act=0,1/act=0,1/act=0,1/act=0,1/nodes=4/node=s,3/node=a,0/node=a,1/node=a,3")
+    ∷ writes (file "plan=1/res=1/acts=2/act=0,1/act=0,1/nodes=4/node=p,2/node=s,1/node=a,0/node=a,1") 0
+    (file "plan=1/res=1/acts=2/act=0,1/act=0,1/nodes=4/node=p,2/node=s,1/node=a,0/node=a,1")
     -- Groups of one: an s in an s is dissolved, an s in a p stays.
-    ∷ writes (file "plan=1/res=1/acts=1/act=0,1/nodes=4/node=p,1/node=s,1/node=s,1/node=a,0") 0 (file "plan=1/res=1/acts=1/act=0,1/nodes=3/node=p,1/node=s,1/node=a,0")
+    ∷ writes (file "plan=1/res=1/acts=1/act=0,1/nodes=4/node=p,1/node=s,1/node=s,1/node=a,0") 0
+    (file "plan=1/res=1/acts=1/act=0,1/nodes=3/node=p,1/node=s,1/node=a,0")
     -- An x under an s under an x.
-    ∷ writes (file "plan=1/res=1/acts=4/act=0,1/act=0,1/act=0,1/act=0,1/nodes=7/node=x,2/node=s,2/node=x,2/node=a,0/node=a,1/node=a,2/node=a,3") 1 (file "plan=1/res=1/acts=4/act=0,1/act=0,1/act=0,1/act=0,1/nodes=3/node=s,2/node=a,1/node=a,2")
-    ∷ writes (file "plan=1/res=1/acts=4/act=0,1/act=0,1/act=0,1/act=0,1/nodes=7/node=x,2/node=s,2/node=x,2/node=a,0/node=a,1/node=a,2/node=a,3") 2 (file "plan=1/res=1/acts=4/act=0,1/act=0,1/act=0,1/act=0,1/nodes=1/node=a,3")
-    -- The dot test's shortest session; one tick too early; two on a device at once; a present one with the mark; an absent one with a start.
+    ∷ writes (file "plan=1/res=1/acts=4/act=0,1/act=0,1/act=0,1/act=0,1/nodes=7/node=x,2/node=s,2/node=x,2/node=a,0/node=a,1/node=a,2/node=a,3") 1
+    (file "plan=1/res=1/acts=4/act=0,1/act=0,1/act=0,1/act=0,1/nodes=3/node=s,2/node=a,1/node=a,2")
+    ∷ writes (file "plan=1/res=1/acts=4/act=0,1/act=0,1/act=0,1/act=0,1/nodes=7/node=x,2/node=s,2/node=x,2/node=a,0/node=a,1/node=a,2/node=a,3") 2
+    (file "plan=1/res=1/acts=4/act=0,1/act=0,1/act=0,1/act=0,1/nodes=1/node=a,3")
+    -- The dot test's shortest session; one tick too early; two on a resource at once; a present one with the mark; an
+    -- absent one with a start.
     ∷ checks dotTest 0 (timetable (0 ∷ absent ∷ absent ∷ 4 ∷ 4 ∷ [])) (Checked true)
     ∷ checks dotTest 0 (timetable (0 ∷ absent ∷ absent ∷ 4 ∷ 3 ∷ [])) (Checked false)
     ∷ checks dotTest 1 (timetable (absent ∷ 0 ∷ 1 ∷ 5 ∷ 5 ∷ [])) (Checked false)
@@ -190,9 +199,9 @@ table =
     ∷ lists dotTest 0 18 (ListAnswers.Refused OverCap)
     -- Activity 0 under both picks of an x counts twice.
     ∷ counts twiceUnderX 9 (Counted 2)
-    -- Two contested devices on one tick; a free device that has to wait; document 000, Example 2, second term.
+    -- Two contested resources on one tick; a free resource that has to wait; document 000, Example 2, second term.
     ∷ spans twoContested 0 (2 ∷ 2 ∷ 2 ∷ 2 ∷ [])
-    ∷ spans freeDeviceWaits 0 (31 ∷ 22 ∷ [])
+    ∷ spans freeResourceWaits 0 (31 ∷ 22 ∷ [])
     ∷ spans example2 0 (5 ∷ 6 ∷ 5 ∷ 7 ∷ 5 ∷ 7 ∷ 5 ∷ 6 ∷ 5 ∷ 7 ∷ 6 ∷ 7 ∷ [])
     -- BEST. The dot test with the program's cap, and caps on both sides of the number of its sessions.
     ∷ finds dotTest 1000000 (0 ∷ []) 10 3
@@ -202,8 +211,9 @@ table =
     -- Both variants are shortest; a plan that the reader turns back.
     ∷ finds twiceUnderX 1000000 (0 ∷ 1 ∷ []) 1 2
     ∷ stops twiceUnderP 1000000 Twice
-    -- Two contested devices on one tick; 22 is missed if a free device never waits; document 000, Example 2, second term.
+    -- Two contested resources on one tick; 22 is missed if a free resource never waits; document 000, Example 2, second
+    -- term.
     ∷ finds twoContested 1000000 (0 ∷ []) 2 4
-    ∷ finds freeDeviceWaits 1000000 (0 ∷ []) 22 2
+    ∷ finds freeResourceWaits 1000000 (0 ∷ []) 22 2
     ∷ finds example2 1000000 (0 ∷ []) 5 12
     ∷ []

@@ -2,11 +2,11 @@
 use crate::rows::has_session;
 use crate::rows::hold;
 use crate::rows::same_rows;
+use answers::BestAnswer;
+use answers::CountAnswer;
+use answers::ListAnswer;
 use enumerator::ABSENT;
 use enumerator::Enumerated;
-use listing::BestAnswer;
-use listing::CountAnswer;
-use listing::ListAnswer;
 use plain::ACTS;
 use plain::Judged;
 use plan::Refusal;
@@ -92,7 +92,8 @@ fn is_session(variant: u64, starts: [u16; ACTS], e: Enumerated, own: &[u16]) -> 
     has_session(own, e.count, variant as u16, &starts, e.acts) & hold(&starts, e.acts, ABSENT)
 }
 
-// BEST has one of the enumerator's sessions, if these are within the cap: one of the least makespan of all feasible ones.
+// BEST has one of the enumerator's sessions, if these are within the cap: one of the least makespan of all feasible
+// ones.
 fn best_agrees(file: &[u8], cap: u32, e: Enumerated, own: &[u16]) -> bool {
     let best = calls::best(file, cap);
     let answer = best.answer;

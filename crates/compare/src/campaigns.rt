@@ -1,4 +1,5 @@
-// The campaigns whose sessions are few enough to try them all, and those that READ settles. The figures are the enumerator's.
+// The campaigns whose sessions are few enough to try them all, and those that READ settles. The figures are the
+// enumerator's.
 use crate::agreement::CELLS;
 use crate::agreement::MOST;
 use crate::agreement::compared;
@@ -72,7 +73,7 @@ fn put_dot_test(file: &[u8]) {
 
 fn put_sessions() {
     put_all_calls(b"two_contested", &samples::two_contested());
-    put_all_calls(b"free_device_waits", &samples::free_device_waits());
+    put_all_calls(b"free_resource_waits", &samples::free_resource_waits());
     put_all_calls(b"twice_under_x", &samples::twice_under_x());
     put_all_calls(b"example_2", &samples::example_2());
 }

@@ -1,5 +1,5 @@
-// The planner against the plain enumerator, which shares no code with it: on generated plans, on each of these with a fault put
-// in, and on the campaigns.
+// The planner against the plain enumerator, which shares no code with it: on generated plans, on each of these with a
+// fault put in, and on the campaigns.
 mod agreement;
 mod campaigns;
 mod faults;

@@ -1,4 +1,5 @@
-// Two listings held against each other cell by cell. A row is a variant and a start for each activity; row order is open.
+// Two listings held against each other cell by cell. A row is a variant and a start for each activity; row order is
+// open.
 
 fn cell(area: &[u16], at: usize) -> u16 {
     if at < area.len() { area[at] } else { 0 }

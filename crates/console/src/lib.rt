@@ -2,10 +2,10 @@
 ghost use Prim.Native.Nat.{_+_, _≤_};
 ghost use lib.ListN.{length};
 ghost use Rattle.io.specs.Counts.{Counts};
+use answers::Best;
+use answers::BestAnswer;
 use libc::STDIN_FILENO;
 use libc::STDOUT_FILENO;
-use listing::Best;
-use listing::BestAnswer;
 use plan::Refusal;
 use timetable::Timetable;
 

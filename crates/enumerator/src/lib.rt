@@ -1,4 +1,5 @@
-// A plain enumerator of the active sessions of a plan file, by the definitions alone. It shares no code with the planner.
+// A plain enumerator of the active sessions of a plan file, by the definitions alone. It shares no code with the
+// planner.
 mod placing;
 mod relation;
 mod rows;
@@ -12,9 +13,9 @@ use plain::Variant;
 // The start of an activity that is absent.
 pub const ABSENT: u16 = 65535;
 
-// The number of activities, and what the variants have together: the number of their active sessions, the least makespan of a
-// feasible session, and how many cells the rows of the active ones take. Where the file is refused, or too many starts were
-// tried, `known` is false and the rest means nothing.
+// The number of activities, and what the variants have together: the number of their active sessions, the least
+// makespan of a feasible session, and how many cells the rows of the active ones take. Where the file is refused, or
+// too many starts were tried, `known` is false and the rest means nothing.
 pub struct Enumerated {
     pub known: bool,
     pub acts: usize,

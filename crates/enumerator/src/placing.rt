@@ -9,8 +9,8 @@ use plain::ACTS;
 // A search ends when it has tried about this many starts.
 pub const LIMIT: u32 = 1000000000;
 
-// A search under way: the number of activities, the number of the variant and one more than the sum of its durations, and of
-// all variants so far the active sessions, the least makespan, the cells of the rows and the starts tried.
+// A search under way: the number of activities, the number of the variant and one more than the sum of its durations,
+// and of all variants so far the active sessions, the least makespan, the cells of the rows and the starts tried.
 pub struct Search {
     pub acts: usize,
     pub variant: u16,

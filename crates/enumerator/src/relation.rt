@@ -1,4 +1,4 @@
-// How two activities of a variant stand to each other: in sequence, on one device, or free.
+// How two activities of a variant stand to each other: in sequence, on one resource, or free.
 use plain::ACTS;
 use plain::NODES;
 use plain::NONE;
@@ -56,7 +56,7 @@ fn relation(p: Plan, v: Variant, i: usize, j: usize) -> u8 {
     if (b < a) & in_sequence(p, b, a) {
         return AFTER;
     }
-    if p.device[i] == p.device[j] {
+    if p.resource[i] == p.resource[j] {
         APART
     } else {
         FREE

@@ -5,9 +5,9 @@ use mathlib.Core.Path.{_≡_, refl, ap, _∙_}
 use native.Mathlib.Nat.{not-suc-le-zero, le-antisymm}
 use native.Mathlib.Numerals.{add-one}
 use lib.Dec.{leb}
-use Rattle.schedule.specs.Below.{everyBelow, _implies_}
-use Rattle.bools.proofs.Bools.{by-bool, true-not-false, both}
-use Rattle.schedule.proofs.Below.{every-at, every-of}
+use Rattle.base.specs.Below.{everyBelow, _implies_}
+use Rattle.base.proofs.Bools.{by-bool, true-not-false, both}
+use Rattle.base.proofs.Below.{every-at, every-of}
 
 -- A loop over every number below n: where it begins, after a turn, at its end, and where one fails.
 module _ (f : ℕ → Bool) where

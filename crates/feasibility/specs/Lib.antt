@@ -1,3 +1,2 @@
--- What the program's arrays stand for, and the test as the code makes it.
-pub mod Stands
+-- The test as the code makes it.
 pub mod Model

@@ -5,7 +5,7 @@ use mathlib.Core.List.{List}
 use lib.Dec.{leb, eqb}
 use lib.ListN.{getD}
 use Rattle.sets.specs.Sets.{has}
-use Rattle.schedule.specs.Below.{everyBelow, _implies_}
+use Rattle.base.specs.Below.{everyBelow, _implies_}
 use Rattle.timetable.specs.Mark.{mark, places}
 
 abbrev pub markRight : Bool → ℕ → Bool
@@ -21,7 +21,8 @@ endsBy duration starts i j = leb (getD starts i 0 + getD duration i 0) (getD sta
 -- i and j do not overlap, if they are two on one resource.
 abbrev pub apart : List ℕ → List ℕ → List ℕ → ℕ → ℕ → Bool
 apart resource duration starts i j =
-    (not (eqb i j) && eqb (getD resource i 0) (getD resource j 0)) implies (endsBy duration starts i j || endsBy duration starts j i)
+    (not (eqb i j) && eqb (getD resource i 0) (getD resource j 0)) implies
+    (endsBy duration starts i j || endsBy duration starts j i)
 
 -- If i is present, it ends by the start of j where it is before j, and the two do not overlap.
 abbrev pub agree : List ℕ → List ℕ → ℕ → ℕ → List ℕ → ℕ → ℕ → Bool

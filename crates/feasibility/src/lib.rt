@@ -1,14 +1,17 @@
 // Is a timetable a feasible session of a variant?
 ghost use mathlib.Core.Path.{_≡_};
 ghost use Prim.Native.Nat.{_<_, _≤_};
-ghost use Rattle.plan.specs.Limits.{mostActs};
-ghost use Rattle.plan.specs.Plan.{Plan};
+ghost use Rattle.plan.specs.Limits.{mostActs, cellValues};
+ghost use mathlib.Core.Bool.{true};
+ghost use Rattle.plan.specs.Plan.{Plan, isPlan};
 ghost use Rattle.term.specs.Term.{Term};
-ghost use Rattle.sessions.specs.Timetable.{isSession};
-ghost use Rattle.feasibility.specs.Stands.{Stands};
+ghost use Rattle.variant.specs.Timetable.{isSession};
+ghost use Rattle.variant.specs.Tables.{IsVariant};
 ghost use Rattle.feasibility.specs.Model.{markRight, marksRight, endsBy, apart, agree, placeRight, placesRight};
+ghost use Rattle.variant.specs.declared.Variant.{Variant};
 use plan::MOST_ACTS;
 use timetable::Timetable;
+use variant::Variant;
 
 // The mark at an absent activity, and at no other.
 fn mark_right(there: bool, start: u16) -> bool
@@ -34,7 +37,7 @@ fn marks_right(present: u32, starts: &[u16; MOST_ACTS]) -> bool
 }
 
 fn wide(x: u16) -> u32
-    ensures { λ r. ⌜ (r ≡ x) × (r < 65536) ⌝ }
+    ensures { λ r. ⌜ (r ≡ x) × (r < cellValues) ⌝ }
 {
     x as u32
 }
@@ -70,7 +73,8 @@ fn apart_at(
     ends_by(duration, starts, j, i)
 }
 
-// Activity j goes with i, where `before` has those that precede j. One that ends by the start of j does not overlap it.
+// Activity j goes with i, where `before` has those that precede j. One that ends by the start of j does not overlap
+// it.
 fn agree_at(
     resource: &[u16; MOST_ACTS],
     duration: &[u16; MOST_ACTS],
@@ -81,7 +85,8 @@ fn agree_at(
     j: usize,
 ) -> bool
     requires { ⌜ (i < mostActs) × (j < mostActs) ⌝ }
-    ensures { λ r. ⌜ r ≡ agree (now (resource .entry)) (now (duration .entry)) present before (now (starts .entry)) i j ⌝ }
+    ensures { λ r.
+        ⌜ r ≡ agree (now (resource .entry)) (now (duration .entry)) present before (now (starts .entry)) i j ⌝ }
 {
     if !sets::contains(present, i) {
         return true;
@@ -102,7 +107,9 @@ fn place_right(
     j: usize,
 ) -> bool
     requires { ⌜ (acts ≤ mostActs) × (j < mostActs) ⌝ }
-    ensures { λ r. ⌜ r ≡ placeRight acts (now (resource .entry)) (now (duration .entry)) present before (now (starts .entry)) j ⌝ }
+    ensures { λ r.
+        ⌜ r
+        ≡ placeRight acts (now (resource .entry)) (now (duration .entry)) present before (now (starts .entry)) j ⌝ }
 {
     if !sets::contains(present, j) {
         return true;
@@ -126,7 +133,10 @@ fn places_right(
     starts: &[u16; MOST_ACTS],
 ) -> bool
     requires { ⌜ acts ≤ mostActs ⌝ }
-    ensures { λ r. ⌜ r ≡ placesRight acts (now (resource .entry)) (now (duration .entry)) present (now (preds .entry)) (now (starts .entry)) ⌝ }
+    ensures { λ r.
+        ⌜ r
+        ≡ placesRight acts (now (resource .entry)) (now (duration .entry)) present (now (preds .entry))
+        (now (starts .entry)) ⌝ }
 {
     let mut j: usize = 0;
     while j < acts {
@@ -138,21 +148,17 @@ fn places_right(
     true
 }
 
-// Yes exactly if the timetable is a session of the variant of the plan that the other arguments stand for, whatever its
-// numbers are.
-pub fn is_session(
-    acts: usize,
-    resource: &[u16; MOST_ACTS],
-    duration: &[u16; MOST_ACTS],
-    present: u32,
-    preds: &[u32; MOST_ACTS],
-    starts: &[u16; MOST_ACTS],
-) -> bool
-    requires { ⌜ acts ≤ mostActs ⌝ }
-    ensures { λ r. ⌜ ((p : Plan) (w : Term) → Stands p w acts (now (resource .entry)) (now (duration .entry)) present (now (preds .entry)) → r ≡ isSession p w (now (starts .entry))) ⌝ }
+// Yes exactly if the timetable is a session of the variant, whatever its numbers are.
+pub fn is_session(x: Variant, starts: &[u16; MOST_ACTS]) -> bool
+    requires { ⌜ x .acts ≤ mostActs ⌝ }
+    ensures { λ r.
+        ⌜ ((p : Plan) (w : Term) → isPlan p ≡ true → IsVariant p w x → r ≡ isSession p w (now (starts .entry))) ⌝ }
 {
-    if !marks_right(present, starts) {
+    if !marks_right(x.present, starts) {
         return false;
     }
-    places_right(acts, resource, duration, present, preds, starts)
+    let resource = x.resource;
+    let duration = x.duration;
+    let preds = x.preds;
+    places_right(x.acts, &resource, &duration, x.present, &preds, starts)
 }

@@ -7,42 +7,15 @@ use native.Mathlib.Omega.{arith}
 use borrow.Author.Tests.{le-ltb, ne-eqb, eqb-true}
 use lib.Dec.{ltb, eqb}
 use lib.ListN.{length}
-use Rattle.plan.specs.Limits.{
-  longest,
-  mostResources,
-  mostActs,
-  isEdition,
-  isResourceCount,
-  isActCount,
-  isNodeCount,
-  editionForm,
-  resourcesForm,
-  actsForm,
-  actForm,
-  nodesForm,
-  nodeForm,
-}
+use Rattle.plan.specs.Limits.{longest, mostResources, mostActs, isEdition, isResourceCount, isActCount, isNodeCount}
+use Rattle.plan.specs.Limits.{editionForm, resourcesForm, actsForm, actForm, nodesForm, nodeForm}
 use Rattle.plan.specs.Plan.{Plan, isActivity, isNode, isPlan}
 use Rattle.plan.specs.declared.Refusal.the-variants.{Length}
 use Rattle.format.specs.Text.{text}
-use Rattle.format.specs.Parse.{
-  Outcome,
-  read,
-  stop,
-  aLine,
-  theLines,
-  theEnd,
-  number,
-  activity-of,
-  node-of,
-  planLines,
-  Result,
-  holds,
-  refuses,
-  parse,
-}
-use Rattle.bools.proofs.Bools.{by-bool}
-use Rattle.format.proofs.Tests.{chosen-first, chosen-second, between-facts}
+use Rattle.format.specs.Parse.{LinesRead, read, stop, aLine, theLines, theEnd, number, activity-of, node-of}
+use Rattle.format.specs.Parse.{planLines, Result, holds, refuses, parse}
+use Rattle.base.proofs.Bools.{by-bool, elim-true, elim-false}
+use Rattle.format.proofs.Tests.{between-facts}
 use Rattle.format.proofs.Readers.{stopped, then-read, both-read}
 use Rattle.format.proofs.Plans.{Sound, plan-sound, sound-plan}
 use Rattle.format.proofs.PlanLines.{edition-line, resources-line, acts-line, act-lines, nodes-line, node-lines}
@@ -57,11 +30,14 @@ lines-of-text p ok =
     let (l₁, e₁) = edition-line .reads 1 1 _ refl in
     let (l₂, e₂) = resources-line .reads (p .resources) l₁ _ (ok .resources) in
     let (l₃, e₃) = acts-line .reads (length (p .activities)) l₂ _ (ok .acts) in
-    let (l₄, e₄) = act-lines (p .resources) (length (p .activities)) r .reads (p .activities) l₃ _ (refl, ok .activities) in
+    let (l₄, e₄) =
+    act-lines (p .resources) (length (p .activities)) r .reads (p .activities) l₃ _ (refl, ok .activities) in
     let (l₅, e₅) = nodes-line .reads (length (p .nodes)) l₄ _ (ok .nodeCount) in
-    let (l₆, e₆) = node-lines (length (p .activities)) (length (p .nodes)) n .reads (p .nodes) l₅ [] (refl, ok .nodes) in (
+    let (l₆, e₆) =
+    node-lines (length (p .activities)) (length (p .nodes)) n .reads (p .nodes) l₅ [] (refl, ok .nodes) in (
       l₆,
-      then-read _ e₁ ∙ then-read _ e₂ ∙ then-read _ e₃ ∙ then-read _ e₄ ∙ then-read _ e₅ ∙ then-read _ (rw append-nil at e₆),
+      then-read _ e₁ ∙ then-read _ e₂ ∙ then-read _ e₃ ∙ then-read _ e₄ ∙ then-read _ e₅
+          ∙ then-read _ (rw append-nil at e₆),
     )
 
 end-read : (line : ℕ) (s : List ℕ) (u : Unit {0}) (line′ : ℕ) (s′ : List ℕ) → theEnd line s ≡ read u line′ s′ → s ≡ []
@@ -70,7 +46,8 @@ end-read line [] u line′ s′ e = refl
 end-read line (b ∷ s) u line′ s′ e = absurd (stopped e)
 
 -- Lines that are read as a plan are its text.
-text-of-lines : (s : List ℕ) (p : Plan) (line : ℕ) (rest : List ℕ) → planLines 1 s ≡ read p line rest → Sound p × (s ≡ text p)
+text-of-lines : (s : List ℕ) (p : Plan) (line : ℕ) (rest : List ℕ) → planLines 1 s ≡ read p line rest
+    → Sound p × (s ≡ text p)
 unfolding planLines text
 text-of-lines s p line rest e =
     both-read _ (aLine editionForm number isEdition 1 s) e λ e₀ l₁ s₁ h₁ k₁.
@@ -95,10 +72,22 @@ text-of-lines s p line rest e =
         nodeCount = rw (w₆ .0 .0) (w₅ .0);
         nodes = rw (w₄ .0 .0) (w₆ .0 .1);
       },
-      rw (w₄ .0 .0, w₆ .0 .0, w₁ .1, w₂ .1, w₃ .1, w₄ .1, w₅ .1, w₆ .1, end-read l₆ s₆ u l₇ s₇ h₇, append-nil, eqb-true e₀ 1 (w₁ .0)),
+      rw (
+        w₄ .0 .0,
+        w₆ .0 .0,
+        w₁ .1,
+        w₂ .1,
+        w₃ .1,
+        w₄ .1,
+        w₅ .1,
+        w₆ .1,
+        end-read l₆ s₆ u l₇ s₇ h₇,
+        append-nil,
+        eqb-true e₀ 1 (w₁ .0),
+      ),
     )
 
-abbrev verdict : Outcome Plan → Result
+abbrev verdict : LinesRead Plan → Result
 verdict o = elim o [ read p line rest ↦ holds p | stop r ↦ refuses r ]
 
 abbrev isTooLong : List ℕ → Bool
@@ -109,36 +98,30 @@ pub text-parses : (p : Plan) → isPlan p ≡ true → parse (text p) ≡ holds 
 unfolding parse
 text-parses p ok =
     let fits : isTooLong (text p) ≡ false =
-    rw (ne-eqb (length (text p)) 0 (λ e. omega (arith, text-some p ok)), le-ltb longest (length (text p)) (text-short p ok)) in
-    chosen-second _ _ fits ∙ ap verdict (lines-of-text p (plan-sound p ok) .1)
+    rw (
+      ne-eqb (length (text p)) 0 (λ e. omega (arith, text-some p ok)),
+      le-ltb longest (length (text p)) (text-short p ok),
+    ) in
+    elim-false _ _ _ fits ∙ ap verdict (lines-of-text p (plan-sound p ok) .1)
 
 -- What holds a plan is the text of that plan, and no longer than a text can be.
-held : (o : Outcome Plan) (p : Plan) → verdict o ≡ holds p → (line : ℕ) × (rest : List ℕ) × (o ≡ read p line rest)
+held : (o : LinesRead Plan) (p : Plan) → verdict o ≡ holds p → (line : ℕ) × (rest : List ℕ) × (o ≡ read p line rest)
 held (read q line rest) p e = let same : q ≡ p = cc in (line, rest, rw same)
 held (stop r) p e = let z : _≡_ {A = ℕ} 0 1 = cc in absurd (omega arith)
 
-parsed-lines : (s : List ℕ) (p : Plan) → parse s ≡ holds p → (line : ℕ) × (rest : List ℕ) × (planLines 1 s ≡ read p line rest)
+parsed-lines : (s : List ℕ) (p : Plan) → parse s ≡ holds p
+    → (line : ℕ) × (rest : List ℕ) × (planLines 1 s ≡ read p line rest)
 unfolding parse
 parsed-lines s p e =
     by-bool (isTooLong s)
     (λ t.
-    let refused : refuses Length ≡ holds p = sym (chosen-first _ _ t) ∙ e in
+    let refused : refuses Length ≡ holds p = sym (elim-true _ _ _ t) ∙ e in
     let z : _≡_ {A = ℕ} 0 1 = cc in
     absurd (omega arith))
-    (λ t. held (planLines 1 s) p (sym (chosen-second _ _ t) ∙ e))
+    (λ t. held (planLines 1 s) p (sym (elim-false _ _ _ t) ∙ e))
 
 pub parse-text : (s : List ℕ) (p : Plan) → parse s ≡ holds p → (isPlan p ≡ true) × (s ≡ text p)
 parse-text s p e =
     let (line, rest, lines) = parsed-lines s p e in
     let (ok, same) = text-of-lines s p line rest lines in
     (sound-plan p ok, same)
-
-pub parse-short : (s : List ℕ) (p : Plan) → parse s ≡ holds p → length s ≤ longest
-parse-short s p e = let (ok, same) = parse-text s p e in rw same (text-short p ok)
-
--- So two plans have two texts.
-pub text-one : (p q : Plan) → isPlan p ≡ true → isPlan q ≡ true → text p ≡ text q → p ≡ q
-text-one p q sound-p sound-q e =
-    let one : holds p ≡ parse (text p) = sym (text-parses p sound-p) in
-    let other : parse (text q) ≡ holds q = text-parses q sound-q in
-    cc

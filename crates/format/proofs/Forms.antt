@@ -1,4 +1,4 @@
--- A form finds what it was filled with, and nothing else: one induction over the form, for all forms.
+-- A form matches what it was filled with, and nothing else: one induction over the form, for all forms.
 use Prim.Native.Nat.{ℕ, suc, _^_, _<_}
 use mathlib.Core.Bool.{Bool, true, false, not, _&&_, _||_, false≢true}
 use mathlib.Core.List.{List, [], _∷_, _++_, append-assoc}
@@ -11,27 +11,12 @@ use lib.ListN.{length, getD, drop}
 use lib.Seq.{drop-append-seam}
 use Rattle.plan.specs.Limits.{mostDigits}
 use Rattle.plan.specs.Plan.{isLetter}
-use Rattle.format.specs.Lines.{isDigit, digits, isValue, decimal, written, Found, with-value, found, filled}
-use Rattle.bools.proofs.Bools.{by-bool, both, and-left, and-right}
-use Rattle.format.proofs.Tests.{chosen-second}
-use Rattle.format.proofs.Laws.{
-  digits-digits,
-  digits-prefix,
-  Kind,
-  value,
-  letter,
-  literal,
-  kind,
-  found-value,
-  found-no-value,
-  found-letter,
-  found-no-letter,
-  found-literal,
-  found-no-literal,
-  filled-value,
-  filled-letter,
-  filled-literal,
-}
+use Rattle.format.specs.Lines.{isDigit, digits, isValue, decimal, numeral, slots, Fields, with-value, matched}
+use Rattle.format.specs.Lines.{filled}
+use Rattle.base.proofs.Bools.{by-bool, both, and-left, and-right, elim-false}
+use Rattle.format.proofs.Laws.{digits-digits, digits-prefix, Kind, value, letter, literal, kind, matched-value}
+use Rattle.format.proofs.Laws.{matched-no-value, matched-letter, matched-no-letter, matched-literal}
+use Rattle.format.proofs.Laws.{matched-no-literal, filled-value, filled-letter, filled-literal}
 use Rattle.format.proofs.Values.{decimal-written, digits-written, value-written, value-below, value-read}
 
 -- A form can be read back where each `#` is followed by a byte that is no digit and stands for itself.
@@ -58,24 +43,21 @@ fitting (b ∷ form) vs =
       | false ↦ elim (eqb b 64) [ true ↦ taking isLetter (fitting form) vs | false ↦ fitting form vs ]
     ]
 
-abbrev pub slots : List ℕ → ℕ
-slots [] = 0
-slots (b ∷ form) = elim (eqb b 35 || eqb b 64) [ true ↦ suc (slots form) | false ↦ slots form ]
-
--- What is found behind a value, a letter, a byte that stands for itself.
+-- What is matched behind a value, a letter, a byte that stands for itself.
 module _ (form s : List ℕ) where
-  pub found-written :
+  pub matched-written :
       (v : ℕ) → v < 10 ^ mostDigits → isDigit (getD s 0 0) ≡ false
-      → found (35 ∷ form) (written mostDigits v ++ s) ≡ with-value v (found form s)
-  found-written v h n =
-      found-value form (written mostDigits v ++ s) (rw (digits-written v s n) (value-written v h))
-      ∙ rw (digits-written v s n, decimal-written mostDigits v h, drop-append-seam (written mostDigits v) s)
+      → matched (35 ∷ form) (numeral mostDigits v ++ s) ≡ with-value v (matched form s)
+  matched-written v h n =
+      matched-value form (numeral mostDigits v ++ s) (rw (digits-written v s n) (value-written v h))
+      ∙ rw (digits-written v s n, decimal-written mostDigits v h, drop-append-seam (numeral mostDigits v) s)
 
-  pub found-a-letter : (b : ℕ) → isLetter b ≡ true → found (64 ∷ form) (b ∷ s) ≡ with-value b (found form s)
-  found-a-letter b e = found-letter form (b ∷ s) e
+  pub matched-a-letter : (b : ℕ) → isLetter b ≡ true → matched (64 ∷ form) (b ∷ s) ≡ with-value b (matched form s)
+  matched-a-letter b e = matched-letter form (b ∷ s) e
 
-  pub found-a-literal : (b : ℕ) → eqb b 35 ≡ false → eqb b 64 ≡ false → found (b ∷ form) (b ∷ s) ≡ found form s
-  found-a-literal b p q = found-literal form (b ∷ s) b p q (both (lt-ltb 0 (suc (length s)) (omega arith)) (eq-eqb b b refl))
+  pub matched-a-literal : (b : ℕ) → eqb b 35 ≡ false → eqb b 64 ≡ false → matched (b ∷ form) (b ∷ s) ≡ matched form s
+  matched-a-literal b p q =
+      matched-literal form (b ∷ s) b p q (both (lt-ltb 0 (suc (length s)) (omega arith)) (eq-eqb b b refl))
 
 -- A plain byte is none of the three.
 plain-facts : (b : ℕ) → isPlain b ≡ true → (isDigit b ≡ false) × (eqb b 35 ≡ false) × (eqb b 64 ≡ false)
@@ -87,15 +69,17 @@ plain-facts b e = none-of (isDigit b) (eqb b 35) (eqb b 64) e
     none-of false true z e = absurd (false≢true e)
     none-of true y z e = absurd (false≢true e)
 
-ends-value : (form vs rest : List ℕ) → isPlain (getD form 0 35) ≡ true → isDigit (getD (filled form vs ++ rest) 0 0) ≡ false
+ends-value : (form vs rest : List ℕ) → isPlain (getD form 0 35) ≡ true
+    → isDigit (getD (filled form vs ++ rest) 0 0) ≡ false
 ends-value [] vs rest e = absurd (false≢true e)
 ends-value (b ∷ form) vs rest e =
     let (n, p, q) = plain-facts b e in
     rw (filled-literal form vs b p q) n
 
-fitting-literal : (form vs : List ℕ) (b : ℕ) → eqb b 35 ≡ false → eqb b 64 ≡ false → fitting (b ∷ form) vs ≡ fitting form vs
+fitting-literal : (form vs : List ℕ) (b : ℕ) → eqb b 35 ≡ false → eqb b 64 ≡ false
+    → fitting (b ∷ form) vs ≡ fitting form vs
 unfolding fitting
-fitting-literal form vs b p q = chosen-second _ _ p ∙ chosen-second _ _ q
+fitting-literal form vs b p q = elim-false _ _ _ p ∙ elim-false _ _ _ q
 
 -- As many values as slots.
 abbrev Counts : List ℕ → Type 0
@@ -109,76 +93,85 @@ counts letter form others [] fit = absurd (false≢true fit)
 counts letter form others (v ∷ vs) fit = ap suc (others vs (and-right (isLetter v) (fitting form vs) fit))
 counts (literal {b} p q) form others vs fit =
     let neither : (eqb b 35 || eqb b 64) ≡ false = rw (p, q) in
-    others vs (rw (fitting-literal form vs b p q) at fit) ∙ sym (chosen-second _ _ neither)
+    others vs (rw (fitting-literal form vs b p q) at fit) ∙ sym (elim-false _ _ _ neither)
 
 pub fitting-count : (form vs : List ℕ) → fitting form vs ≡ true → length vs ≡ slots form
 unfolding fitting
 fitting-count [] vs fit = eqb-true (length vs) 0 fit
 fitting-count (b ∷ form) vs fit = counts (kind b) form (fitting-count form) vs fit
 
--- What was filled in is found.
+-- What was filled in is matched.
 abbrev Finds : List ℕ → List ℕ → List ℕ → Type 0
-Finds form rest vs = fitting form vs ≡ true → found form (filled form vs ++ rest) ≡ some (record { values = vs; rest = rest })
+Finds form rest vs =
+    fitting form vs ≡ true → matched form (filled form vs ++ rest) ≡ some (record { values = vs; rest = rest })
 
 finds : {b : ℕ} → Kind b → (form rest : List ℕ) → isForm (b ∷ form) ≡ true → ((vs : List ℕ) → Finds form rest vs)
     → (vs : List ℕ) → Finds (b ∷ form) rest vs
 unfolding fitting
 finds value form rest ok others [] fit = absurd (false≢true fit)
 finds value form rest ok others (v ∷ vs) fit =
-    rw (filled-value form (v ∷ vs), append-assoc (written mostDigits v) (filled form vs) rest)
-    (found-written form (filled form vs ++ rest) v
+    rw (filled-value form (v ∷ vs), append-assoc (numeral mostDigits v) (filled form vs) rest)
+    (matched-written form (filled form vs ++ rest) v
     (ltb-true v (10 ^ mostDigits) (and-left (isShort v) (fitting form vs) fit))
     (ends-value form vs rest (and-left (isPlain (getD form 0 35)) (isForm form) ok))
     ∙ rw (others vs (and-right (isShort v) (fitting form vs) fit)))
 finds letter form rest ok others [] fit = absurd (false≢true fit)
 finds letter form rest ok others (v ∷ vs) fit =
     rw (filled-letter form (v ∷ vs))
-    (found-a-letter form (filled form vs ++ rest) v (and-left (isLetter v) (fitting form vs) fit)
+    (matched-a-letter form (filled form vs ++ rest) v (and-left (isLetter v) (fitting form vs) fit)
     ∙ rw (others vs (and-right (isLetter v) (fitting form vs) fit)))
 finds (literal {b} p q) form rest ok others vs fit =
     rw (filled-literal form vs b p q)
-    (found-a-literal form (filled form vs ++ rest) b p q ∙ others vs (rw (fitting-literal form vs b p q) at fit))
+    (matched-a-literal form (filled form vs ++ rest) b p q ∙ others vs (rw (fitting-literal form vs b p q) at fit))
 
-pub found-filled : (form vs rest : List ℕ) → isForm form ≡ true → fitting form vs ≡ true
-    → found form (filled form vs ++ rest) ≡ some (record { values = vs; rest = rest })
-unfolding fitting found filled
-found-filled [] [] rest ok fit = refl
-found-filled [] (v ∷ vs) rest ok fit = absurd (omega (arith, eqb-true (suc (length vs)) 0 fit))
-found-filled (b ∷ form) vs rest ok fit =
-    finds (kind b) form rest ok (λ ws fit′. found-filled form ws rest (and-right (not (eqb b 35) || isPlain (getD form 0 35)) (isForm form) ok) fit′) vs fit
+pub matched-filled : (form vs rest : List ℕ) → isForm form ≡ true → fitting form vs ≡ true
+    → matched form (filled form vs ++ rest) ≡ some (record { values = vs; rest = rest })
+unfolding fitting matched filled
+matched-filled [] [] rest ok fit = refl
+matched-filled [] (v ∷ vs) rest ok fit = absurd (omega (arith, eqb-true (suc (length vs)) 0 fit))
+matched-filled (b ∷ form) vs rest ok fit =
+    finds (kind b) form rest ok
+    (λ ws fit′. matched-filled form ws rest
+    (and-right (not (eqb b 35) || isPlain (getD form 0 35)) (isForm form) ok) fit′) vs fit
 
--- What is found was filled in.
-pub record Filled (form s : List ℕ) (f : Found) : Type 0 where
+-- What is matched was filled in.
+pub record Filled (form s : List ℕ) (f : Fields) : Type 0 where
   pub bytes : s ≡ filled form (f .values) ++ f .rest
   pub fits : fitting form (f .values) ≡ true
 
-abbrev after : ℕ → Found → Found
+abbrev after : ℕ → Fields → Fields
 after v g = record { values = v ∷ g .values; rest = g .rest }
 
-with-some : (P : Found → Type 0) (v : ℕ) (o : Option Found) (f : Found) → ((g : Found) → o ≡ some g → P (after v g))
+with-some : (P : Fields → Type 0) (v : ℕ) (o : Option Fields) (f : Fields)
+    → ((g : Fields) → o ≡ some g → P (after v g))
     → with-value v o ≡ some f → P f
 with-some P v none f h e = absurd (Option·none-ne-some f e)
 with-some P v (some g) f h e = rw (sym (Option·some-injective _ _ e)) (h g refl)
 
-after-value : (form s : List ℕ) (g : Found) → isValue (digits s) ≡ true → Filled form (drop (length (digits s)) s) g
+after-value : (form s : List ℕ) (g : Fields) → isValue (digits s) ≡ true → Filled form (drop (length (digits s)) s) g
     → Filled (35 ∷ form) s (after (decimal 0 (digits s)) g)
 unfolding fitting
 after-value form s g v m =
     record {
       bytes =
-          rw (filled-value form (decimal 0 (digits s) ∷ g .values), value-read (digits s) v (digits-digits s), append-assoc, ← m .bytes)
+          rw (
+            filled-value form (decimal 0 (digits s) ∷ g .values),
+            value-read (digits s) v (digits-digits s),
+            append-assoc,
+            ← m .bytes,
+          )
           (digits-prefix s);
       fits = both (lt-ltb _ _ (value-below (digits s) v (digits-digits s))) (m .fits);
     }
 
-after-letter : (form s : List ℕ) (g : Found) → isLetter (getD s 0 0) ≡ true → Filled form (drop 1 s) g
+after-letter : (form s : List ℕ) (g : Fields) → isLetter (getD s 0 0) ≡ true → Filled form (drop 1 s) g
     → Filled (64 ∷ form) s (after (getD s 0 0) g)
 unfolding fitting
 after-letter form [] g e m = absurd (false≢true e)
 after-letter form (c ∷ s) g e m =
     record { bytes = rw (filled-letter form (c ∷ g .values)) (ap (λ t. c ∷ t) (m .bytes)); fits = both e (m .fits) }
 
-after-literal : (form s : List ℕ) (g : Found) (b : ℕ) → eqb b 35 ≡ false → eqb b 64 ≡ false
+after-literal : (form s : List ℕ) (g : Fields) (b : ℕ) → eqb b 35 ≡ false → eqb b 64 ≡ false
     → (ltb 0 (length s) && eqb (getD s 0 0) b) ≡ true → Filled form (drop 1 s) g → Filled (b ∷ form) s g
 after-literal form [] g b p q e m = absurd (false≢true e)
 after-literal form (c ∷ s) g b p q e m =
@@ -190,32 +183,32 @@ after-literal form (c ∷ s) g b p q e m =
     }
 
 abbrev Fills : List ℕ → Type 0
-Fills form = (s : List ℕ) (f : Found) → found form s ≡ some f → Filled form s f
+Fills form = (s : List ℕ) (f : Fields) → matched form s ≡ some f → Filled form s f
 
-nothing : {o : Option Found} {f : Found} {C : Type 0} → o ≡ none → o ≡ some f → C
+nothing : {o : Option Fields} {f : Fields} {C : Type 0} → o ≡ none → o ≡ some f → C
 nothing {f} p q = absurd (Option·none-ne-some f (sym p ∙ q))
 
 fills : {b : ℕ} → Kind b → (form : List ℕ) → Fills form → Fills (b ∷ form)
 fills value form others s f e =
     by-bool (isValue (digits s))
     (λ v.
-    with-some (Filled (35 ∷ form) s) _ (found form (drop (length (digits s)) s)) f
+    with-some (Filled (35 ∷ form) s) _ (matched form (drop (length (digits s)) s)) f
     (λ g q. after-value form s g v (others _ g q))
-    (sym (found-value form s v) ∙ e))
-    (λ v. nothing (found-no-value form s v) e)
+    (sym (matched-value form s v) ∙ e))
+    (λ v. nothing (matched-no-value form s v) e)
 fills letter form others s f e =
     by-bool (isLetter (getD s 0 0))
     (λ v.
-    with-some (Filled (64 ∷ form) s) _ (found form (drop 1 s)) f
+    with-some (Filled (64 ∷ form) s) _ (matched form (drop 1 s)) f
     (λ g q. after-letter form s g v (others _ g q))
-    (sym (found-letter form s v) ∙ e))
-    (λ v. nothing (found-no-letter form s v) e)
+    (sym (matched-letter form s v) ∙ e))
+    (λ v. nothing (matched-no-letter form s v) e)
 fills (literal {b} p q) form others s f e =
     by-bool (ltb 0 (length s) && eqb (getD s 0 0) b)
-    (λ v. after-literal form s f b p q v (others (drop 1 s) f (sym (found-literal form s b p q v) ∙ e)))
-    (λ v. nothing (found-no-literal form s b p q v) e)
+    (λ v. after-literal form s f b p q v (others (drop 1 s) f (sym (matched-literal form s b p q v) ∙ e)))
+    (λ v. nothing (matched-no-literal form s b p q v) e)
 
-pub filled-found : (form s : List ℕ) (f : Found) → found form s ≡ some f → Filled form s f
-unfolding found filled fitting
-filled-found [] s f e = rw (sym (Option·some-injective _ _ e)) (record { bytes = refl; fits = refl })
-filled-found (b ∷ form) s f e = fills (kind b) form (filled-found form) s f e
+pub filled-matched : (form s : List ℕ) (f : Fields) → matched form s ≡ some f → Filled form s f
+unfolding matched filled fitting
+filled-matched [] s f e = rw (sym (Option·some-injective _ _ e)) (record { bytes = refl; fits = refl })
+filled-matched (b ∷ form) s f e = fills (kind b) form (filled-matched form) s f e

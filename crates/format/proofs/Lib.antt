@@ -6,6 +6,7 @@ pub mod Forms
 pub mod Readers
 pub mod Plans
 pub mod PlanLines
+pub mod Columns
 pub mod Short
 pub mod Format
 pub mod Longest

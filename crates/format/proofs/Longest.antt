@@ -6,7 +6,7 @@ use mathlib.Core.Path.{_≡_, refl}
 use lib.ListN.{length, replicate}
 use Rattle.plan.specs.Limits.{longest, mostResources, mostActs, longestDuration, mostChildren}
 use Rattle.plan.specs.Plan.{activity, xor, Plan, isPlan}
-use Rattle.format.specs.Lines.{written, filled}
+use Rattle.format.specs.Lines.{numeral, filled}
 use Rattle.format.specs.Text.{actLines, nodeLines, text}
 
 abbrev pub longestPlan : Plan
@@ -21,5 +21,5 @@ pub longest-is-plan : isPlan longestPlan ≡ true
 longest-is-plan = refl
 
 pub longest-length : length (text longestPlan) ≡ longest
-unfolding written filled actLines nodeLines text
+unfolding numeral filled actLines nodeLines text
 longest-length = refl

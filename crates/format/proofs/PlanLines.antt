@@ -6,40 +6,18 @@ use mathlib.Core.Path.{_≡_, refl, ap₂, _∙_}
 use native.Mathlib.Omega.{arith}
 use borrow.Author.Tests.{lt-ltb, eqb-true}
 use lib.ListN.{length, getD}
-use Rattle.plan.specs.Limits.{
-  mostDigits,
-  mostResources,
-  mostActs,
-  mostNodes,
-  isEdition,
-  isResourceCount,
-  isActCount,
-  isNodeCount,
-  editionForm,
-  resourcesForm,
-  actsForm,
-  actForm,
-  nodesForm,
-  nodeForm,
-}
+use Rattle.plan.specs.Limits.{mostDigits, mostResources, mostActs, mostNodes, isEdition, isResourceCount, isActCount}
+use Rattle.plan.specs.Limits.{isNodeCount, editionForm, resourcesForm, actsForm, actForm, nodesForm, nodeForm}
 use Rattle.plan.specs.Plan.{Activity, Node, letterOf, valueOf, isLetter, isActivity, isNode}
-use Rattle.format.specs.Lines.{filled}
+use Rattle.plan.proofs.Nodes.{node-number}
+use Rattle.format.specs.Lines.{filled, slots}
 use Rattle.format.specs.Text.{actLines, nodeLines}
 use Rattle.format.specs.Parse.{aLine, theLines, number, activity-of, node-of}
-use Rattle.bools.proofs.Bools.{both, and-left}
+use Rattle.base.proofs.Bools.{both, and-left}
 use Rattle.format.proofs.Tests.{between-facts}
-use Rattle.format.proofs.Plans.{
-  resource-below,
-  duration-between,
-  number-most,
-  node-same,
-  letter-is,
-  Letter,
-  letter-cases,
-  letter-same,
-  number-same,
-}
-use Rattle.format.proofs.Forms.{isForm, isShort, fitting, slots, fitting-count}
+use Rattle.format.proofs.Plans.{resource-below, duration-between, number-most, node-same, letter-is, Letter}
+use Rattle.format.proofs.Plans.{letter-cases, letter-same}
+use Rattle.format.proofs.Forms.{isForm, isShort, fitting, fitting-count}
 use Rattle.format.proofs.Readers.{Exact, line-exact, Count, Joined, lines-exact}
 
 -- One value, and two.
@@ -63,7 +41,8 @@ Number form ok = Exact (aLine form number ok) (λ n. filled form (n ∷ [])) (λ
 number-line : (form : List ℕ) (ok : ℕ → Bool) → isForm form ≡ true → slots form ≡ 1
     → ((n : ℕ) → ok n ≡ true → fitting form (n ∷ []) ≡ true) → Number form ok
 number-line form ok formed count fits =
-    line-exact form number ok (λ n. n ∷ []) formed (λ n. refl) (λ vs fit. one-value vs (fitting-count form vs fit ∙ count)) fits
+    line-exact form number ok (λ n. n ∷ []) formed (λ n. refl)
+    (λ vs fit. one-value vs (fitting-count form vs fit ∙ count)) fits
 
 pub edition-line : Number editionForm isEdition
 unfolding fitting
@@ -71,7 +50,9 @@ edition-line = number-line editionForm isEdition refl refl (λ n e. short n (ome
 
 pub resources-line : Number resourcesForm isResourceCount
 unfolding fitting
-resources-line = number-line resourcesForm isResourceCount refl refl (λ n e. short n (omega (arith, between-facts 1 mostResources n e)))
+resources-line =
+    number-line resourcesForm isResourceCount refl refl
+    (λ n e. short n (omega (arith, between-facts 1 mostResources n e)))
 
 pub acts-line : Number actsForm isActCount
 unfolding fitting
@@ -79,7 +60,8 @@ acts-line = number-line actsForm isActCount refl refl (λ n e. short n (omega (a
 
 pub nodes-line : Number nodesForm isNodeCount
 unfolding fitting
-nodes-line = number-line nodesForm isNodeCount refl refl (λ n e. short n (omega (arith, between-facts 1 mostNodes n e)))
+nodes-line =
+    number-line nodesForm isNodeCount refl refl (λ n e. short n (omega (arith, between-facts 1 mostNodes n e)))
 
 -- An activity and a node.
 abbrev pub actLine : Activity → List ℕ
@@ -111,7 +93,8 @@ node-line n h =
     line-exact nodeForm node-of (isNode n) (λ m. letterOf m ∷ valueOf m ∷ []) refl node-same
     (λ vs fit.
     let b : Letter (getD vs 0 0) = letter-cases (getD vs 0 0) (letter-first vs fit) in
-    ap₂ (λ l v. l ∷ v ∷ []) (letter-same b (getD vs 1 0)) (number-same b (getD vs 1 0)) ∙ two-values vs (fitting-count nodeForm vs fit))
+    ap₂ (λ l v. l ∷ v ∷ []) (letter-same b (getD vs 1 0)) (node-number (getD vs 0 0) (getD vs 1 0))
+    ∙ two-values vs (fitting-count nodeForm vs fit))
     (λ m e. both (letter-is m) (short (valueOf m) (omega (arith, number-most n m h e))))
 
 pub act-joined : Joined actLine actLines
@@ -127,5 +110,6 @@ pub act-lines : (r n : ℕ) → r ≤ mostResources
     → Exact (theLines n (aLine actForm activity-of (isActivity r))) actLines (Count (isActivity r) n)
 act-lines r n h = lines-exact (isActivity r) (act-line r h) act-joined n
 
-pub node-lines : (n m : ℕ) → n ≤ mostActs → Exact (theLines m (aLine nodeForm node-of (isNode n))) nodeLines (Count (isNode n) m)
+pub node-lines : (n m : ℕ) → n ≤ mostActs
+    → Exact (theLines m (aLine nodeForm node-of (isNode n))) nodeLines (Count (isNode n) m)
 node-lines n m h = lines-exact (isNode n) (node-line n h) node-joined m

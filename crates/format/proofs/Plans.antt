@@ -6,33 +6,12 @@ use native.Mathlib.Omega.{arith}
 use borrow.Author.Tests.{ltb-true, eqb-true}
 use lib.Dec.{ltb, eqb}
 use lib.ListN.{length}
-use Rattle.plan.specs.Limits.{
-  mostActs,
-  longestDuration,
-  mostChildren,
-  isResourceCount,
-  isActCount,
-  isDuration,
-  isNodeCount,
-}
-use Rattle.plan.specs.Plan.{
-  Activity,
-  Node,
-  activity,
-  seq,
-  pll,
-  xor,
-  Plan,
-  letterOf,
-  valueOf,
-  isLetter,
-  nodeOf,
-  isActivity,
-  isNode,
-  every,
-  isPlan,
-}
-use Rattle.bools.proofs.Bools.{by-bool, both, and-left, and-right}
+use Rattle.plan.specs.Limits.{mostActs, longestDuration, mostChildren, isResourceCount, isActCount, isDuration}
+use Rattle.plan.specs.Limits.{isNodeCount}
+use Rattle.plan.specs.Plan.{Activity, Node, activity, seq, pll, xor, Plan, letterOf, valueOf, isLetter, nodeOf}
+use Rattle.plan.specs.Plan.{isActivity, isNode, isPlan}
+use Rattle.base.specs.Lists.{every}
+use Rattle.base.proofs.Bools.{by-bool, both, and-left, and-right}
 use Rattle.format.proofs.Tests.{between-facts}
 
 pub record Sound (p : Plan) : Type 0 where
@@ -72,7 +51,8 @@ module _ (r : ℕ) (a : Activity) (e : isActivity r a ≡ true) where
   resource-below = ltb-true (a .resource) r (and-left (ltb (a .resource) r) (isDuration (a .duration)) e)
 
   pub duration-between : (1 ≤ a .duration) × (a .duration ≤ longestDuration)
-  duration-between = between-facts 1 longestDuration (a .duration) (and-right (ltb (a .resource) r) (isDuration (a .duration)) e)
+  duration-between =
+      between-facts 1 longestDuration (a .duration) (and-right (ltb (a .resource) r) (isDuration (a .duration)) e)
 
 pub number-most : (n : ℕ) (m : Node) → n ≤ mostActs → isNode n m ≡ true → valueOf m ≤ mostChildren
 number-most n (activity i) h e = omega (arith, ltb-true i n e)
@@ -112,9 +92,3 @@ letter-same a v = refl
 letter-same s v = refl
 letter-same p v = refl
 letter-same x v = refl
-
-pub number-same : {b : ℕ} → Letter b → (v : ℕ) → valueOf (nodeOf b v) ≡ v
-number-same a v = refl
-number-same s v = refl
-number-same p v = refl
-number-same x v = refl

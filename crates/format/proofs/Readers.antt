@@ -6,27 +6,27 @@ use mathlib.Core.Option.{Option, none, some}
 use mathlib.Core.Path.{_≡_, refl, sym, ap, ap₂, _∙_}
 use native.Mathlib.Omega.{arith}
 use lib.ListN.{length}
-use Rattle.plan.specs.Plan.{every}
+use Rattle.base.specs.Lists.{every}
 use Rattle.plan.specs.declared.Refusal.{Refusal}
 use Rattle.plan.specs.declared.Refusal.the-variants.{Form, Range}
-use Rattle.format.specs.Lines.{Found, found, filled}
-use Rattle.format.specs.Parse.{Outcome, read, stop, Reader, aLine, theLines}
-use Rattle.bools.proofs.Bools.{by-bool, both, and-left, and-right}
-use Rattle.format.proofs.Tests.{choose, chosen-first, chosen-second}
-use Rattle.format.proofs.Forms.{isForm, fitting, found-filled, Filled, filled-found}
+use Rattle.format.specs.Lines.{Fields, matched, filled}
+use Rattle.format.specs.Parse.{LinesRead, read, stop, Reader, aLine, theLines}
+use Rattle.base.proofs.Bools.{by-bool, both, and-left, and-right, elim-true, elim-false}
+use Rattle.format.proofs.Tests.{choose}
+use Rattle.format.proofs.Forms.{isForm, fitting, matched-filled, Filled, filled-matched}
 
 pub stopped : {A : Type 0} {r : Refusal} {a : A} {line : ℕ} {s : List ℕ} → stop r ≡ read a line s → ⊥
 stopped e = let z : _≡_ {A = ℕ} 0 1 = cc in omega arith
 
 -- One reader, then another.
 module _ {A B : Type 0} (next : A → Reader B) where
-  abbrev onward : Outcome A → Outcome B
+  abbrev onward : LinesRead A → LinesRead B
   onward o = elim o [ read a line s ↦ next a line s | stop r ↦ stop r ]
 
-  pub then-read : {o : Outcome A} {a : A} {line : ℕ} {s : List ℕ} → o ≡ read a line s → onward o ≡ next a line s
+  pub then-read : {o : LinesRead A} {a : A} {line : ℕ} {s : List ℕ} → o ≡ read a line s → onward o ≡ next a line s
   then-read e = ap onward e
 
-  pub both-read : {C : Type 0} (o : Outcome A) {b : B} {line : ℕ} {s : List ℕ} → onward o ≡ read b line s
+  pub both-read : {C : Type 0} (o : LinesRead A) {b : B} {line : ℕ} {s : List ℕ} → onward o ≡ read b line s
       → ((a : A) (line₁ : ℕ) (s₁ : List ℕ) → o ≡ read a line₁ s₁ → next a line₁ s₁ ≡ read b line s → C) → C
   both-read (read a line₁ s₁) e then = then a line₁ s₁ refl e
   both-read (stop r) e then = absurd (stopped e)
@@ -34,18 +34,19 @@ module _ {A B : Type 0} (next : A → Reader B) where
 -- `reader` takes what `write` gives, for each thing that is `Ok`, whatever follows; and nothing else.
 pub record Exact {A : Type 0} (reader : Reader A) (write : A → List ℕ) (Ok : A → Type 0) : Type 0 where
   pub reads : (a : A) (line : ℕ) (s : List ℕ) → Ok a → (line′ : ℕ) × (reader line (write a ++ s) ≡ read a line′ s)
-  pub wrote : (line : ℕ) (s : List ℕ) (a : A) (line′ : ℕ) (s′ : List ℕ) → reader line s ≡ read a line′ s′ → (Ok a) × (s ≡ write a ++ s′)
+  pub wrote : (line : ℕ) (s : List ℕ) (a : A) (line′ : ℕ) (s′ : List ℕ) → reader line s ≡ read a line′ s′
+      → (Ok a) × (s ≡ write a ++ s′)
 
 -- A line, where its values say one thing and that thing has those values.
 module _ {A : Type 0} (form : List ℕ) (make : List ℕ → A) (ok : A → Bool) where
-  abbrev answered : ℕ → Option Found → Outcome A
+  abbrev answered : ℕ → Option Fields → LinesRead A
   answered line o =
       elim o [
         | none ↦ stop (Form line)
         | some f ↦ choose (ok (make (f .values))) (read (make (f .values)) (line + 1) (f .rest)) (stop (Range line))
       ]
 
-  answer : (line : ℕ) (s : List ℕ) → aLine form make ok line s ≡ answered line (found form s)
+  answer : (line : ℕ) (s : List ℕ) → aLine form make ok line s ≡ answered line (matched form s)
   unfolding aLine
   answer line s = refl
 
@@ -55,18 +56,22 @@ module _ {A : Type 0} (form : List ℕ) (make : List ℕ → A) (ok : A → Bool
       (back : (vs : List ℕ) → fitting form vs ≡ true → values (make vs) ≡ vs)
       (fits : (a : A) → ok a ≡ true → fitting form (values a) ≡ true)
     where
-      says : (line : ℕ) (s : List ℕ) (a : A) (line′ : ℕ) (s′ : List ℕ) (o : Option Found) → found form s ≡ o → answered line o ≡ read a line′ s′
+      says : (line : ℕ) (s : List ℕ) (a : A) (line′ : ℕ) (s′ : List ℕ) (o : Option Fields) → matched form s ≡ o
+          → answered line o ≡ read a line′ s′
           → (ok a ≡ true) × (s ≡ filled form (values a) ++ s′)
       says line s a line′ s′ none q e = absurd (stopped e)
       says line s a line′ s′ (some f) q e =
           by-bool (ok (make (f .values)))
           (λ v.
-          let m : Filled form s f = filled-found form s f q in
-          let e′ : read (make (f .values)) (line + 1) (f .rest) ≡ read a line′ s′ = sym (chosen-first _ _ v) ∙ e in
+          let m : Filled form s f = filled-matched form s f q in
+          let e′ : read (make (f .values)) (line + 1) (f .rest) ≡ read a line′ s′ = sym (elim-true _ _ _ v) ∙ e in
           let ea : make (f .values) ≡ a = cc in
-          let es : f .rest ≡ s′ = cc in
-          (rw ea at v, m .bytes ∙ ap₂ (λ vs t. filled form vs ++ t) (sym (back (f .values) (m .fits)) ∙ ap values ea) es))
-          (λ v. absurd (stopped (sym (chosen-second _ _ v) ∙ e)))
+          let es : f .rest ≡ s′ = cc in (
+            rw ea at v,
+            m .bytes
+                ∙ ap₂ (λ vs t. filled form vs ++ t) (sym (back (f .values) (m .fits)) ∙ ap values ea) es,
+          ))
+          (λ v. absurd (stopped (sym (elim-false _ _ _ v) ∙ e)))
 
       pub line-exact : Exact (aLine form make ok) (λ a. filled form (values a)) (λ a. ok a ≡ true)
       line-exact =
@@ -75,9 +80,9 @@ module _ {A : Type 0} (form : List ℕ) (make : List ℕ → A) (ok : A → Bool
                 λ a line s k. (
                   line + 1,
                   answer line (filled form (values a) ++ s)
-                      ∙ rw (found-filled form (values a) s formed (fits a k)) (rw (same a) (chosen-first _ _ k)),
+                      ∙ rw (matched-filled form (values a) s formed (fits a k)) (rw (same a) (elim-true _ _ _ k)),
                 );
-            wrote = λ line s a line′ s′ e. says line s a line′ s′ (found form s) refl (sym (answer line s) ∙ e);
+            wrote = λ line s a line′ s′ e. says line s a line′ s′ (matched form s) refl (sym (answer line s) ∙ e);
           }
 
 -- So many things, each `ok`, and their lines one behind the other.
@@ -102,7 +107,8 @@ module _ {A : Type 0} {reader : Reader A} {write : A → List ℕ} {writes : Lis
         let (line₂, there) = lines-read n xs line₁ s (omega arith, and-right (ok x) (every ok xs) (k .1)) in
         (line₂, rw (joined .cons x xs, append-assoc) (then-read _ here ∙ then-read _ there))
 
-    lines-wrote : (n line : ℕ) (s : List ℕ) (xs : List A) (line′ : ℕ) (s′ : List ℕ) → theLines n reader line s ≡ read xs line′ s′
+    lines-wrote : (n line : ℕ) (s : List ℕ) (xs : List A) (line′ : ℕ) (s′ : List ℕ)
+        → theLines n reader line s ≡ read xs line′ s′
         → Count ok n xs × (s ≡ writes xs ++ s′)
     unfolding theLines
     lines-wrote zero line s xs line′ s′ e =

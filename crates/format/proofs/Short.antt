@@ -6,26 +6,13 @@ use mathlib.Core.Path.{_≡_, refl}
 use native.Mathlib.Nat.{suc-mul}
 use native.Mathlib.Omega.{arith}
 use lib.ListN.{length, getD, drop, length-append}
-use Rattle.plan.specs.Limits.{
-  between,
-  longest,
-  mostDigits,
-  mostResources,
-  mostActs,
-  longestDuration,
-  mostNodes,
-  mostChildren,
-  editionForm,
-  resourcesForm,
-  actsForm,
-  actForm,
-  nodesForm,
-  nodeForm,
-}
-use Rattle.plan.specs.Plan.{Activity, Node, Plan, letterOf, valueOf, isActivity, isNode, every, isPlan}
-use Rattle.format.specs.Lines.{written, filled}
+use Rattle.plan.specs.Limits.{between, longest, mostDigits, mostResources, mostActs, longestDuration, mostNodes}
+use Rattle.plan.specs.Limits.{mostChildren, editionForm, resourcesForm, actsForm, actForm, nodesForm, nodeForm}
+use Rattle.plan.specs.Plan.{Activity, Node, Plan, letterOf, valueOf, isActivity, isNode, isPlan}
+use Rattle.base.specs.Lists.{every}
+use Rattle.format.specs.Lines.{numeral, filled}
 use Rattle.format.specs.Text.{text}
-use Rattle.bools.proofs.Bools.{and-left, and-right}
+use Rattle.base.proofs.Bools.{and-left, and-right}
 use Rattle.format.proofs.Tests.{between-facts}
 use Rattle.format.proofs.Laws.{Kind, value, letter, literal, kind, filled-value, filled-letter, filled-literal}
 use Rattle.format.proofs.Values.{by-size, written-one, written-more, written-some}
@@ -34,8 +21,8 @@ use Rattle.format.proofs.Plans.{Sound, plan-sound, resource-below, dura
 use Rattle.format.proofs.PlanLines.{actLine, nodeLine, act-joined, node-joined}
 
 -- A greater number has no fewer digits.
-pub written-longer : (k n m : ℕ) → n ≤ m → length (written k n) ≤ length (written k m)
-unfolding written
+pub written-longer : (k n m : ℕ) → n ≤ m → length (numeral k n) ≤ length (numeral k m)
+unfolding numeral
 written-longer zero n m h = omega arith
 written-longer (suc k) n m h =
     by-size n
@@ -71,7 +58,8 @@ longer value form others vs ws h =
       others (drop 1 vs) (drop 1 ws) (at-most-others vs ws h),
     )))
 longer letter form others vs ws h =
-    rw (filled-letter form vs, filled-letter form ws) (suc-le-suc (others (drop 1 vs) (drop 1 ws) (at-most-others vs ws h)))
+    rw (filled-letter form vs, filled-letter form ws)
+    (suc-le-suc (others (drop 1 vs) (drop 1 ws) (at-most-others vs ws h)))
 longer (literal {b} p q) form others vs ws h =
     rw (filled-literal form vs b p q, filled-literal form ws b p q) (suc-le-suc (others vs ws h))
 
@@ -90,7 +78,7 @@ record Widths : Type 0 where
   node : (b : ℕ) → length (filled nodeForm (b ∷ mostChildren ∷ [])) ≡ 10
 
 widths : Widths
-unfolding filled written
+unfolding filled numeral
 widths = record { edition = refl; resources = refl; acts = refl; act = refl; nodes = refl; node = λ b. refl }
 
 number-short : (form : List ℕ) (high n : ℕ) → between 1 high n ≡ true
@@ -111,7 +99,8 @@ node-short n h m e =
     omega (
       arith,
       widths .node (letterOf m),
-      filled-longer nodeForm (letterOf m ∷ valueOf m ∷ []) (letterOf m ∷ mostChildren ∷ []) (omega arith, (number-most n m h e, tt)),
+      filled-longer nodeForm (letterOf m ∷ valueOf m ∷ []) (letterOf m ∷ mostChildren ∷ [])
+          (omega arith, (number-most n m h e, tt)),
     )
 
 -- So many lines, each at most so long.
@@ -130,18 +119,22 @@ module _ (p : Plan) (ok : isPlan p ≡ true) where
   unfolding text
   text-short =
       let sound : Sound p = plan-sound p ok in
-      let resources : p .resources ≤ mostResources = between-facts 1 mostResources (p .resources) (sound .resources) .1 in
-      let acts : length (p .activities) ≤ mostActs = between-facts 1 mostActs (length (p .activities)) (sound .acts) .1 in
+      let resources : p .resources ≤ mostResources =
+      between-facts 1 mostResources (p .resources) (sound .resources) .1 in
+      let acts : length (p .activities) ≤ mostActs =
+      between-facts 1 mostActs (length (p .activities)) (sound .acts) .1 in
       simp length-append
       (omega (
         arith,
         widths,
         number-short resourcesForm mostResources (p .resources) (sound .resources),
         number-short actsForm mostActs (length (p .activities)) (sound .acts),
-        lines-short act-joined (isActivity (p .resources)) 12 (act-short (p .resources) resources) (p .activities) (sound .activities),
+        lines-short act-joined (isActivity (p .resources)) 12 (act-short (p .resources) resources) (p .activities)
+            (sound .activities),
         number-short nodesForm mostNodes (length (p .nodes)) (sound .nodeCount),
         between-facts 1 mostNodes (length (p .nodes)) (sound .nodeCount),
-        lines-short node-joined (isNode (length (p .activities))) 10 (node-short (length (p .activities)) acts) (p .nodes) (sound .nodes),
+        lines-short node-joined (isNode (length (p .activities))) 10 (node-short (length (p .activities)) acts)
+            (p .nodes) (sound .nodes),
       ))
 
   pub text-some : 1 ≤ length (text p)

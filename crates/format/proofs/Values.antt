@@ -9,20 +9,21 @@ use borrow.Author.Tests.{ltb-true, ltb-false, lt-ltb, le-ltb, eq-eqb, ne-eqb}
 use lib.Dec.{ltb, eqb}
 use lib.ListN.{length, getD, length-append, List·getD-append}
 use Rattle.plan.specs.Limits.{between, mostDigits}
-use Rattle.plan.specs.Plan.{every}
-use Rattle.format.specs.Lines.{isDigit, digits, isValue, decimal, written}
-use Rattle.bools.proofs.Bools.{by-bool, both, and-left, and-right}
-use Rattle.format.proofs.Tests.{chosen-first, chosen-second, between-facts, facts-between, every-append}
+use Rattle.base.specs.Lists.{every}
+use Rattle.format.specs.Lines.{isDigit, digits, isValue, decimal, numeral}
+use Rattle.base.proofs.Bools.{by-bool, both, and-left, and-right, elim-true, elim-false}
+use Rattle.format.proofs.Tests.{between-facts, facts-between}
+use Rattle.base.proofs.Every.{every-append}
 use Rattle.format.proofs.Laws.{digits-whole}
 
 -- `written` and `decimal` by their last digit.
-pub written-one : (k n : ℕ) → n < 10 → written (suc k) n ≡ (48 + n) ∷ []
-unfolding written
-written-one k n h = chosen-first _ _ (lt-ltb n 10 h)
+pub written-one : (k n : ℕ) → n < 10 → numeral (suc k) n ≡ (48 + n) ∷ []
+unfolding numeral
+written-one k n h = elim-true _ _ _ (lt-ltb n 10 h)
 
-pub written-more : (k n : ℕ) → 10 ≤ n → written (suc k) n ≡ written k (n / 10) ++ ((48 + n % 10) ∷ [])
-unfolding written
-written-more k n h = chosen-second _ _ (le-ltb n 10 h)
+pub written-more : (k n : ℕ) → 10 ≤ n → numeral (suc k) n ≡ numeral k (n / 10) ++ ((48 + n % 10) ∷ [])
+unfolding numeral
+written-more k n h = elim-false _ _ _ (le-ltb n 10 h)
 
 pub decimal-last : (n : ℕ) (ds : List ℕ) (b : ℕ) → decimal n (ds ++ (b ∷ [])) ≡ decimal n ds * 10 + (b - 48)
 unfolding decimal
@@ -39,41 +40,46 @@ digit-facts b e = between-facts 48 57 b e
 digit-of : (n : ℕ) → n < 10 → isDigit (48 + n) ≡ true
 digit-of n h = facts-between 48 57 (48 + n) (omega arith) (omega arith)
 
-pub written-digits : (k n : ℕ) → every isDigit (written k n) ≡ true
-unfolding written
+pub written-digits : (k n : ℕ) → every isDigit (numeral k n) ≡ true
+unfolding numeral
 written-digits zero n = refl
 written-digits (suc k) n =
     by-size n
     (λ h. rw (written-one k n h) (both (digit-of n h) refl))
-    (λ h. rw (written-more k n h, every-append isDigit (written k (n / 10)) ((48 + n % 10) ∷ []))
+    (λ h. rw (written-more k n h, every-append isDigit (numeral k (n / 10)) ((48 + n % 10) ∷ []))
     (both (written-digits k (n / 10)) (both (digit-of (n % 10) (omega arith)) refl)))
 
 -- Read back they are the number.
-pub decimal-written : (k n : ℕ) → n < 10 ^ k → decimal 0 (written k n) ≡ n
-unfolding written decimal
+pub decimal-written : (k n : ℕ) → n < 10 ^ k → decimal 0 (numeral k n) ≡ n
+unfolding numeral decimal
 decimal-written zero n h = omega arith
 decimal-written (suc k) n h =
     by-size n
     (λ s. rw (written-one k n s) (omega arith))
-    (λ l. rw (written-more k n l, decimal-last 0 (written k (n / 10)) (48 + n % 10), decimal-written k (n / 10) (omega (arith, pow-suc 10 k)))
+    (λ l. rw (
+      written-more k n l,
+      decimal-last 0 (numeral k (n / 10)) (48 + n % 10),
+      decimal-written k (n / 10)
+          (omega (arith, pow-suc 10 k)),
+    )
     (omega arith))
 
 -- There are one to k of them, and the first is 0 only in 0.
-pub written-most : (k n : ℕ) → length (written k n) ≤ k
-unfolding written
+pub written-most : (k n : ℕ) → length (numeral k n) ≤ k
+unfolding numeral
 written-most zero n = omega arith
 written-most (suc k) n =
     by-size n
     (λ h. rw (written-one k n h) (omega arith))
     (λ h. rw (written-more k n h) (simp length-append (omega (arith, written-most k (n / 10)))))
 
-pub written-some : (k n : ℕ) → 1 ≤ length (written (suc k) n)
+pub written-some : (k n : ℕ) → 1 ≤ length (numeral (suc k) n)
 written-some k n =
     by-size n
     (λ h. rw (written-one k n h) (omega arith))
     (λ h. rw (written-more k n h) (simp length-append (omega arith)))
 
-pub written-lead : (k n : ℕ) → n < 10 ^ suc k → getD (written (suc k) n) 0 0 ≡ 48 → n ≡ 0
+pub written-lead : (k n : ℕ) → n < 10 ^ suc k → getD (numeral (suc k) n) 0 0 ≡ 48 → n ≡ 0
 written-lead zero n h e = let small : n < 10 = omega arith in omega (arith, rw (written-one 0 n small) at e)
 written-lead (suc k) n h e =
     by-size n
@@ -81,23 +87,24 @@ written-lead (suc k) n h e =
     (λ l.
     let q : n / 10 ≡ 0 =
     written-lead k (n / 10) (omega (arith, pow-suc 10 (suc k)))
-    (sym (List·getD-append (written (suc k) (n / 10)) ((48 + n % 10) ∷ []) 0 0 (written-some k (n / 10)))
+    (sym (List·getD-append (numeral (suc k) (n / 10)) ((48 + n % 10) ∷ []) 0 0 (written-some k (n / 10)))
     ∙ rw (written-more (suc k) n l) at e) in
     omega arith)
 
 -- So a number below 10 ^ 5 is written as a value, which ends where its digits end.
-pub value-written : (n : ℕ) → n < 10 ^ mostDigits → isValue (written mostDigits n) ≡ true
+pub value-written : (n : ℕ) → n < 10 ^ mostDigits → isValue (numeral mostDigits n) ≡ true
 unfolding isValue
 value-written n h =
     both
-    (facts-between 1 mostDigits (length (written mostDigits n)) (written-some 4 n) (written-most mostDigits n))
+    (facts-between 1 mostDigits (length (numeral mostDigits n)) (written-some 4 n) (written-most mostDigits n))
     (by-size n
     (λ s. rw (written-one 4 n s))
-    (λ l. rw (ne-eqb (getD (written mostDigits n) 0 0) 48 (λ e. omega (arith, written-lead 4 n h e)))
-    (or-true (eqb (length (written mostDigits n)) 1))))
+    (λ l. rw (ne-eqb (getD (numeral mostDigits n) 0 0) 48 (λ e. omega (arith, written-lead 4 n h e)))
+    (or-true (eqb (length (numeral mostDigits n)) 1))))
 
-pub digits-written : (n : ℕ) (s : List ℕ) → isDigit (getD s 0 0) ≡ false → digits (written mostDigits n ++ s) ≡ written mostDigits n
-digits-written n s e = digits-whole (written mostDigits n) s (written-digits mostDigits n) e
+pub digits-written : (n : ℕ) (s : List ℕ) → isDigit (getD s 0 0) ≡ false
+    → digits (numeral mostDigits n ++ s) ≡ numeral mostDigits n
+digits-written n s e = digits-whole (numeral mostDigits n) s (written-digits mostDigits n) e
 
 -- The other way round, by the last digit.
 data Ends : List ℕ → Type 0 where
@@ -126,13 +133,13 @@ decimal-below j n (d ∷ ds) h e =
     (omega (arith, pow-suc 10 j, digit-facts d (and-left (isDigit d) (every isDigit ds) e)))
     (and-right (isDigit d) (every isDigit ds) e))
 
-written-digit : (k b : ℕ) → isDigit b ≡ true → written (suc k) (decimal 0 (b ∷ [])) ≡ b ∷ []
+written-digit : (k b : ℕ) → isDigit b ≡ true → numeral (suc k) (decimal 0 (b ∷ [])) ≡ b ∷ []
 unfolding decimal
 written-digit k b e =
     let known : (48 ≤ b) × (b ≤ 57) = digit-facts b e in
     written-one k (0 * 10 + (b - 48)) (omega arith) ∙ ap (λ d. d ∷ []) (omega arith)
 
-written-next : (k n b : ℕ) → 1 ≤ n → isDigit b ≡ true → written (suc k) (n * 10 + (b - 48)) ≡ written k n ++ (b ∷ [])
+written-next : (k n b : ℕ) → 1 ≤ n → isDigit b ≡ true → numeral (suc k) (n * 10 + (b - 48)) ≡ numeral k n ++ (b ∷ [])
 written-next k n b h e =
     let known : (48 ≤ b) × (b ≤ 57) = digit-facts b e in
     let front : (n * 10 + (b - 48)) / 10 ≡ n = omega arith in
@@ -145,20 +152,23 @@ lead-positive d ds e h = omega (arith, digit-facts d e, decimal-grows (0 * 10 + 
 
 written-decimal :
     (k : ℕ) {ds : List ℕ} → Ends ds → length ds ≤ k → every isDigit ds ≡ true → (getD ds 0 0 ≡ 48 → ⊥)
-    → written k (decimal 0 ds) ≡ ds
+    → numeral k (decimal 0 ds) ≡ ds
 written-decimal zero (one b) l e h = absurd (omega arith)
 written-decimal zero (more d ds b) l e h = absurd (omega arith)
 written-decimal (suc k) (one b) l e h = written-digit k b (and-left (isDigit b) true e)
 written-decimal (suc k) (more d ds b) l e h =
-    let split : (every isDigit (d ∷ ds) && (isDigit b && true)) ≡ true = rw (every-append isDigit (d ∷ ds) (b ∷ [])) at e in
+    let split : (every isDigit (d ∷ ds) && (isDigit b && true)) ≡ true =
+    rw (every-append isDigit (d ∷ ds) (b ∷ [])) at e in
     let front : every isDigit (d ∷ ds) ≡ true = and-left (every isDigit (d ∷ ds)) (isDigit b && true) split in
-    let last : isDigit b ≡ true = and-left (isDigit b) true (and-right (every isDigit (d ∷ ds)) (isDigit b && true) split) in
+    let last : isDigit b ≡ true =
+    and-left (isDigit b) true (and-right (every isDigit (d ∷ ds)) (isDigit b && true) split) in
     rw (decimal-last 0 (d ∷ ds) b)
     (written-next k (decimal 0 (d ∷ ds)) b (lead-positive d ds (and-left (isDigit d) (every isDigit ds) front) h) last
     ∙ rw (written-decimal k (ends d ds) (omega (arith, length-append ds (b ∷ []))) front h))
 
-no-lead : (ds : List ℕ) → 1 ≤ length ds → length ds ≤ mostDigits → (eqb (length ds) 1 || not (eqb (getD ds 0 0) 48)) ≡ true
-    → every isDigit ds ≡ true → written mostDigits (decimal 0 ds) ≡ ds
+no-lead : (ds : List ℕ) → 1 ≤ length ds → length ds ≤ mostDigits
+    → (eqb (length ds) 1 || not (eqb (getD ds 0 0) 48)) ≡ true
+    → every isDigit ds ≡ true → numeral mostDigits (decimal 0 ds) ≡ ds
 no-lead [] p l t e = absurd (omega arith)
 no-lead (d ∷ []) p l t e = written-digit 4 d (and-left (isDigit d) true e)
 no-lead (d ∷ c ∷ ds) p l t e =
@@ -179,5 +189,5 @@ module _ (ds : List ℕ) (v : isValue ds ≡ true) (e : every isDigit ds ≡ tru
       lt-of-lt-of-le (decimal-below 0 0 ds (omega arith) e)
       (pow-le-pow-right {n = 10} (omega arith) {j = mostDigits} (omega (arith, value-length)))
 
-  pub value-read : written mostDigits (decimal 0 ds) ≡ ds
+  pub value-read : numeral mostDigits (decimal 0 ds) ≡ ds
   value-read = no-lead ds (value-length .0) (value-length .1) (parts .1) e

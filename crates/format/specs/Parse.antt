@@ -1,36 +1,26 @@
--- The plan that a text holds. Lines are taken one by one: refusal 2 where a line has not its form, then 3 where one of
--- its values is out of range.
+-- The plan that a text holds. Lines are taken one by one: refusal 2 where a line has not its form, then 3 where one
+-- of its values is out of range.
 use Prim.Native.Nat.{ℕ, zero, suc, _+_}
-use mathlib.Core.Bool.{Bool, true, false, _&&_, _||_}
+use mathlib.Core.Bool.{Bool, true, false, _||_}
 use mathlib.Core.List.{List, [], _∷_}
-use mathlib.Core.Option.{Option, none, some}
-use lib.Dec.{leb, ltb, eqb}
+use mathlib.Core.Option.{none, some}
+use lib.Dec.{ltb, eqb}
 use lib.ListN.{length, getD}
-use Rattle.plan.specs.Limits.{
-  longest,
-  isEdition,
-  isResourceCount,
-  isActCount,
-  isNodeCount,
-  editionForm,
-  resourcesForm,
-  actsForm,
-  actForm,
-  nodesForm,
-  nodeForm,
-}
+use Rattle.plan.specs.Limits.{longest, isEdition, isResourceCount, isActCount, isNodeCount, editionForm}
+use Rattle.plan.specs.Limits.{resourcesForm, actsForm, actForm, nodesForm, nodeForm}
 use Rattle.plan.specs.Plan.{Activity, Node, Plan, nodeOf, isActivity, isNode}
 use Rattle.plan.specs.declared.Refusal.{Refusal}
 use Rattle.plan.specs.declared.Refusal.the-variants.{Length, Form, Range}
-use Rattle.format.specs.Lines.{Found, found}
+use Rattle.format.specs.Lines.{matched}
 
--- What reading some lines gives: what they say, the number of the next line and the bytes from there on; or the refusal.
-pub data Outcome (A : Type 0) : Type 0 where
-  read : A → ℕ → List ℕ → Outcome A
-  stop : Refusal → Outcome A
+-- What reading some lines gives: what they say, the number of the next line and the bytes from there on; or the
+-- refusal.
+pub data LinesRead (A : Type 0) : Type 0 where
+  read : A → ℕ → List ℕ → LinesRead A
+  stop : Refusal → LinesRead A
 
 abbrev pub Reader : Type 0 → Type 0
-Reader A = ℕ → List ℕ → Outcome A
+Reader A = ℕ → List ℕ → LinesRead A
 
 abbrev pub _>>=_ : {A B : Type 0} → Reader A → (A → Reader B) → Reader B
 _>>=_ reader then line s = elim (reader line s) [ read a line′ s′ ↦ then a line′ s′ | stop r ↦ stop r ]
@@ -41,9 +31,10 @@ return a line s = read a line s
 -- One line: `make` is what its values say, `fits` their range.
 unfoldable pub aLine : {A : Type 0} → List ℕ → (List ℕ → A) → (A → Bool) → Reader A
 aLine form make fits line s =
-    elim (found form s) [
+    elim (matched form s) [
       | none ↦ stop (Form line)
-      | some f ↦ elim (fits (make (f .values))) [ true ↦ read (make (f .values)) (line + 1) (f .rest) | false ↦ stop (Range line) ]
+      | some f ↦ elim (fits (make (f .values)))
+          [ true ↦ read (make (f .values)) (line + 1) (f .rest) | false ↦ stop (Range line) ]
     ]
 
 -- So many lines of one form.

@@ -14,7 +14,8 @@ fn letter(r: u8) -> u8 {
     }
 }
 
-// A byte for another: a digit for a digit and mostly a node's letter for one, so that values and terms have faults too.
+// A byte for another: a digit for a digit and mostly a node's letter for one, so that values and terms have faults
+// too.
 fn instead(b: u8, state: u64) -> u8 {
     let r = below(state, 10);
     if (b'0' <= b) & (b <= b'9') {

@@ -12,8 +12,8 @@ use random::below;
 use random::drawn;
 use tree::Term;
 
-// The devices of a plan: one, a few, or the most there may be.
-fn devices(state: u64) -> u8 {
+// The resources of a plan: one, a few, or the most there may be.
+fn resources(state: u64) -> u8 {
     let r = state % 4;
     if r == 3 { 16 } else { (r + 1) as u8 }
 }
@@ -41,8 +41,8 @@ fn activities(out: &mut [u8], start: usize, seed: u64, acts: u8, res: u8) -> usi
     let mut at = start;
     let mut state = seed;
     for i in 0..acts {
-        let device = below(state, res);
-        at = text::activity(out, at, device, duration(state >> 6, seed >> 12, acts));
+        let resource = below(state, res);
+        at = text::activity(out, at, resource, duration(state >> 6, seed >> 12, acts));
         state = drawn(state);
     }
     at
@@ -65,7 +65,7 @@ pub fn generate(seed: u64, out: &mut [u8]) -> usize
     let first = drawn(drawn(random::seeded(seed)));
     let second = drawn(first);
     let third = drawn(second);
-    let res = devices(first);
+    let res = resources(first);
     let acts = below(second, 6) + 1;
     let mut at = text::line(out, 0, b"plan=", 1);
     at = text::line(out, at, b"res=", res);

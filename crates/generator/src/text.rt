@@ -44,9 +44,9 @@ pub fn line(out: &mut [u8], start: usize, key: &[u8], n: u8) -> usize
     put(out, end, b'\n')
 }
 
-pub fn activity(out: &mut [u8], start: usize, device: u8, duration: u8) -> usize {
+pub fn activity(out: &mut [u8], start: usize, resource: u8, duration: u8) -> usize {
     let at = word(out, start, b"act=");
-    let comma = number(out, at, device);
+    let comma = number(out, at, resource);
     line(out, comma, b",", duration)
 }
 

@@ -1,5 +1,5 @@
-// A random term over a range of activities, its nodes in prefix order. A group s or p parts its range among its children, so
-// that no variant has an activity twice; the children of an x may share theirs.
+// A random term over a range of activities, its nodes in prefix order. A group s or p parts its range among its
+// children, so that no variant has an activity twice; the children of an x may share theirs.
 use crate::random::below;
 use crate::random::drawn;
 

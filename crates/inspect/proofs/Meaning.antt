@@ -13,11 +13,11 @@ use Rattle.term.specs.Term.{Term}
 use Rattle.term.specs.Variants.{variantCount}
 use Rattle.variant.specs.Project.{variantAt}
 use Rattle.variant.proofs.RoundTrip.{variant-below}
-use Rattle.sessions.specs.Timetable.{isSession}
-use Rattle.sessions.specs.Words.{Session}
-use Rattle.sessions.proofs.Words.{session-means}
-use Rattle.read.specs.Judge.{Verdict, judge, accepts, refuses}
-use Rattle.read.proofs.Accepts.{accepted-valid}
+use Rattle.variant.specs.Timetable.{isSession}
+use Rattle.variant.specs.Words.{Session}
+use Rattle.variant.proofs.Words.{session-means}
+use Rattle.judge.specs.Judge.{Verdict, judge, accepts, refuses}
+use Rattle.judge.proofs.Accepts.{accepted-valid}
 use Rattle.inspect.specs.Answer.{checkOf, checkBy, checkVariant}
 use Rattle.inspect.specs.Words.{SessionOf}
 use Rattle.inspect.specs.declared.CheckAnswer.the-variants.{Checked, Refused}
@@ -30,11 +30,12 @@ never : {A : Type 0} {r : Refusal} {b : Bool} → Refused r ≡ Checked b → A
 never e = absurd (let z : _≡_ {A = ℕ} 0 1 = cc in omega arith)
 
 -- CHECK of an accepted plan and a variant that it has.
-module _ (s : List ℕ) (v : ℕ) (row : List ℕ) (p : Plan) (t : Term) (e : judge s ≡ accepts p t) (h : v < variantCount t) where
+module _ (s : List ℕ) (v : ℕ) (row : List ℕ) (p : Plan) (t : Term) (e : judge s ≡ accepts p t)
+    (h : v < variantCount t) where
   test-means : (isSession p (variantAt t v) row ≡ true) ↔ Session p (variantAt t v) row
   test-means =
       let valid = accepted-valid s p t e .0 in
-      let inside = variant-below p t v (record { valid = valid .ranges; reads = valid .term; once = valid .once; below = h }) in
+      let inside = variant-below p t v (record { valid = valid; below = h }) in
       session-means p (variantAt t v) (valid .ranges) inside row
 
   pub check-means : (checkOf s v row ≡ Checked true) ↔ Session p (variantAt t v) row

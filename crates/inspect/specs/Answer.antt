@@ -8,8 +8,8 @@ use Rattle.plan.specs.declared.Refusal.the-variants.{NoSuchVariant}
 use Rattle.term.specs.Term.{Term}
 use Rattle.term.specs.Variants.{variantCount}
 use Rattle.variant.specs.Project.{variantAt}
-use Rattle.sessions.specs.Timetable.{isSession}
-use Rattle.read.specs.Judge.{Verdict, accepts, refuses, judge}
+use Rattle.variant.specs.Timetable.{isSession}
+use Rattle.judge.specs.Judge.{Verdict, accepts, refuses, judge}
 use Rattle.inspect.specs.declared.CheckAnswer.{CheckAnswer}
 use Rattle.inspect.specs.declared.CheckAnswer.the-variants.{Checked, Refused}
 

@@ -6,8 +6,8 @@ use Rattle.plan.specs.Plan.{Plan}
 use Rattle.term.specs.Term.{Term}
 use Rattle.term.specs.Variants.{variantCount}
 use Rattle.variant.specs.Project.{variantAt}
-use Rattle.sessions.specs.Words.{Session}
-use Rattle.read.specs.Judge.{judge, accepts}
+use Rattle.variant.specs.Words.{Session}
+use Rattle.judge.specs.Judge.{judge, accepts}
 
 -- The row is a feasible session of variant v of the plan that the file holds.
 pub record SessionOf (s : List ℕ) (v : ℕ) (row : List ℕ) : Type 0 where

@@ -1,5 +1,5 @@
 -- The nearest predecessors, and the activities that come next.
-use Prim.Native.Nat.{ℕ, _+_, _-_, _^_, _≤_, _<_}
+use Prim.Native.Nat.{ℕ, _+_, _^_, _≤_, _<_}
 use native.Mathlib.Nat.{lt-of-le-of-lt}
 use native.Mathlib.Decide.{ℕ-discrete, decLt}
 use native.Mathlib.Omega.{arith}
@@ -13,13 +13,14 @@ use lib.ListN.{length, getD, set, length-set}
 use lib.Pow.{pow-lt}
 use lib.Seq.{getD-set-same, getD-set-other}
 use borrow.Author.Tests.{eq-eqb, ne-eqb}
-use Rattle.bools.proofs.Bools.{by-bool, true-not-false, and-left, cond-true, cond-false}
+use Rattle.base.proofs.Bools.{by-bool, true-not-false, and-left, cond-true, cond-false}
 use Rattle.sets.proofs.Laws.{has-none, has-and, has-xor, has-with, has-without}
 use Rattle.sets.specs.Sets.{most, has}
-use Rattle.members.proofs.Members.{lowest-is, lowest-below, lowest-has, after-less, after-has}
-use Rattle.members.specs.Lowest.{lowestOf, afterLowest}
-use Rattle.network.specs.Network.{predsAt, nextAt, nearAt, Between}
-use Rattle.network.specs.Steps.{Nearest, Joined, Blank, Links}
+use Rattle.sets.proofs.Members.{lowest-is, lowest-below, lowest-has, after-less, after-has}
+use Rattle.sets.specs.Lowest.{lowestOf, afterLowest}
+use Rattle.network.specs.Network.{predsAt, nextAt, nearAt, Between, predsFrom, nextFrom, nearFrom, capCell}
+use Rattle.network.specs.Network.{words}
+use Rattle.network.specs.Steps.{Nearest, LinkedNext, Blank, Links}
 
 -- ---- the nearest members of a set
 
@@ -46,23 +47,33 @@ nearing-none t set h =
       within = λ k e. e;
     }
 
-pub nearing-more : (t : List ℕ) (set near rest near′ rest′ i : ℕ) → Nearing t set near rest → rest ≢ 0 → i ≡ lowestOf rest
+pub nearing-more : (t : List ℕ) (set near rest near′ rest′ i : ℕ) → Nearing t set near rest → rest ≢ 0
+    → i ≡ lowestOf rest
     → near′ ≡ bitXor near (bitAnd near (predsAt t i)) → rest′ ≡ afterLowest rest → Nearing t set near′ rest′
 nearing-more t set near rest near′ rest′ i h more at new next =
     record {
       so-far =
           record {
             low =
-                let small = xor-lt most near (bitAnd near (predsAt t i)) (h .so-far .low) (lt-of-le-of-lt (and-le-l near (predsAt t i)) (h .so-far .low)) in
+                let small =
+                xor-lt most near (bitAnd near (predsAt t i)) (h .so-far .low)
+                (lt-of-le-of-lt (and-le-l near (predsAt t i)) (h .so-far .low)) in
                 omega arith;
-            inside = λ k e. h .so-far .inside k (and-left (has near k) (not (has (predsAt t i) k)) (sym (member k) ∙ e));
+            inside =
+                λ k e. h .so-far .inside k (and-left (has near k) (not (has (predsAt t i) k)) (sym (member k) ∙ e));
             far = λ k e n.
                 by-bool
                 (has near k)
                 (λ there.
                 by-bool
                 (has (predsAt t i) k)
-                (λ gone. (i, lowest-below rest i (h .low) more at, h .within i (lowest-has rest i (h .low) more at), gone))
+                (λ gone. (
+                  i,
+                  lowest-below rest i (h .low) more at,
+                  h .within i
+                      (lowest-has rest i (h .low) more at),
+                  gone,
+                ))
                 (λ stays. true-not-false (member k ∙ ap₂ (λ (x y : Bool). x && not y) there stays) n))
                 (λ out. h .so-far .far k e out);
           };
@@ -89,50 +100,61 @@ pub record Joining (t : List ℕ) (set j : ℕ) (l : List ℕ) (rest : ℕ) : Ty
   pub long : length l ≡ length t
   pub low : rest < 2 ^ most
   pub next : (i : ℕ) → i < most → withIf (has rest i) (nextAt l i) j ≡ withIf (has set i) (nextAt t i) j
-  pub before : (at : ℕ) → at < 64 → getD l at 0 ≡ getD t at 0
-  pub behind : (at : ℕ) → 96 ≤ at → getD l at 0 ≡ getD t at 0
+  pub before : (at : ℕ) → at < nextFrom → getD l at 0 ≡ getD t at 0
+  pub behind : (at : ℕ) → nearFrom ≤ at → getD l at 0 ≡ getD t at 0
 
 pub joining-none : (t : List ℕ) (set j : ℕ) → set < 2 ^ most → Joining t set j t set
-joining-none t set j h = record { long = refl; low = h; next = λ i b. refl; before = λ at b. refl; behind = λ at b. refl }
+joining-none t set j h =
+    record { long = refl; low = h; next = λ i b. refl; before = λ at b. refl; behind = λ at b. refl }
 
-pub joining-more : (t : List ℕ) (m j : ℕ) (l : List ℕ) (rest rest′ i x : ℕ) → length t ≡ 131 → Joining t m j l rest → rest ≢ 0 → i ≡ lowestOf rest
-    → x ≡ bitOr (nextAt l i) (2 ^ j) → rest′ ≡ afterLowest rest → Joining t m j (set l (64 + i) x) rest′
+pub joining-more : (t : List ℕ) (m j : ℕ) (l : List ℕ) (rest rest′ i x : ℕ) → length t ≡ words → Joining t m j l rest
+    → rest ≢ 0 → i ≡ lowestOf rest
+    → x ≡ bitOr (nextAt l i) (2 ^ j) → rest′ ≡ afterLowest rest → Joining t m j (set l (nextFrom + i) x) rest′
 joining-more t m j l rest rest′ i x long h more at new after =
     record {
-      long = length-set l (64 + i) x ∙ h .long;
+      long = length-set l (nextFrom + i) x ∙ h .long;
       low = omega (arith, after-less rest (h .low) more, h .low);
       next = λ k b. by-cases (ℕ-discrete k i) (λ e. here k e) (λ ne. there k ne) ∙ h .next k b;
-      before = λ p b. getD-set-other l (64 + i) p x 0 (λ q. omega arith) ∙ h .before p b;
-      behind = λ p b. getD-set-other l (64 + i) p x 0 (λ q. omega (arith, below)) ∙ h .behind p b;
+      before = λ p b. getD-set-other l (nextFrom + i) p x 0 (λ q. omega arith) ∙ h .before p b;
+      behind = λ p b. getD-set-other l (nextFrom + i) p x 0 (λ q. omega (arith, below)) ∙ h .behind p b;
     }
   where
     below : i < most
     below = lowest-below rest i (h .low) more at
 
     others : (k : ℕ) → has rest′ k ≡ (has rest k && not (eqb k i))
-    others k = ap (λ (y : ℕ). has y k) after ∙ has-after rest (h .low) more k ∙ ap (λ (y : ℕ). has rest k && not (eqb k y)) (sym at)
+    others k =
+        ap (λ (y : ℕ). has y k) after ∙ has-after rest (h .low) more k ∙ ap (λ (y : ℕ). has rest k && not (eqb k y))
+        (sym at)
 
-    here : (k : ℕ) → k ≡ i → withIf (has rest′ k) (nextAt (set l (64 + i) x) k) j ≡ withIf (has rest k) (nextAt l k) j
+    here : (k : ℕ) → k ≡ i
+        → withIf (has rest′ k) (nextAt (set l (nextFrom + i) x) k) j ≡ withIf (has rest k) (nextAt l k) j
     here k e =
         let w = bitOr (nextAt l k) (2 ^ j) in
-        cond-false (bitOr (nextAt (set l (64 + i) x) k) (2 ^ j)) (nextAt (set l (64 + i) x) k) (others k ∙ ap (λ (b : Bool). has rest k && not b) (eq-eqb k i e) ∙ and-false (has rest k))
-        ∙ ap (λ (y : ℕ). nextAt (set l (64 + i) x) y) e
-        ∙ getD-set-same l (64 + i) x 0 (omega (arith, below, h .long))
+        cond-false (bitOr (nextAt (set l (nextFrom + i) x) k) (2 ^ j)) (nextAt (set l (nextFrom + i) x) k)
+        (others k ∙ ap (λ (b : Bool). has rest k && not b) (eq-eqb k i e) ∙ and-false (has rest k))
+        ∙ ap (λ (y : ℕ). nextAt (set l (nextFrom + i) x) y) e
+        ∙ getD-set-same l (nextFrom + i) x 0 (omega (arith, below, h .long))
         ∙ new
         ∙ ap (λ (y : ℕ). bitOr (nextAt l y) (2 ^ j)) (sym e)
         ∙ sym (cond-true w (nextAt l k) (ap (has rest) e ∙ lowest-has rest i (h .low) more at))
 
-    there : (k : ℕ) → k ≢ i → withIf (has rest′ k) (nextAt (set l (64 + i) x) k) j ≡ withIf (has rest k) (nextAt l k) j
+    there : (k : ℕ) → k ≢ i
+        → withIf (has rest′ k) (nextAt (set l (nextFrom + i) x) k) j ≡ withIf (has rest k) (nextAt l k) j
     there k ne =
         ap₂ (λ (b : Bool) (y : ℕ). withIf b y j)
         (others k ∙ ap (λ (b : Bool). has rest k && not b) (ne-eqb k i ne) ∙ and-true (has rest k))
-        (getD-set-other l (64 + i) (64 + k) x 0 (λ q. ne (omega arith)))
+        (getD-set-other l (nextFrom + i) (nextFrom + k) x 0 (λ q. ne (omega arith)))
 
-pub joining-all : (t : List ℕ) (m j : ℕ) (l : List ℕ) (rest : ℕ) → rest ≡ 0 → Joining t m j l rest → Joined t m j l
+pub joining-all : (t : List ℕ) (m j : ℕ) (l : List ℕ) (rest : ℕ) → rest ≡ 0 → Joining t m j l rest
+    → LinkedNext t m j l
 joining-all t m j l rest none h =
     record {
       long = h .long;
-      next = λ i b. sym (cond-false (bitOr (nextAt l i) (2 ^ j)) (nextAt l i) (ap (λ (x : ℕ). has x i) none ∙ has-none i)) ∙ h .next i b;
+      next =
+          λ i b.
+          sym (cond-false (bitOr (nextAt l i) (2 ^ j)) (nextAt l i) (ap (λ (x : ℕ). has x i) none ∙ has-none i))
+          ∙ h .next i b;
       before = h .before;
       behind = h .behind;
     }
@@ -147,8 +169,8 @@ pub record Linking (t : List ℕ) (n : ℕ) (l : List ℕ) : Type 0 where
   pub far : (j k : ℕ) → j < n → has (predsAt t j) k ≡ true → has (nearAt l j) k ≡ false → Between t j k
   pub next : (i j : ℕ) → i < most → j < most → has (nextAt l i) j ≡ has (nearAt l j) i
   pub none : (j : ℕ) → n ≤ j → j < most → nearAt l j ≡ 0
-  pub before : (at : ℕ) → at < 64 → getD l at 0 ≡ getD t at 0
-  pub behind : (at : ℕ) → 128 ≤ at → getD l at 0 ≡ getD t at 0
+  pub before : (at : ℕ) → at < nextFrom → getD l at 0 ≡ getD t at 0
+  pub behind : (at : ℕ) → capCell ≤ at → getD l at 0 ≡ getD t at 0
 
 pub linking-none : (acts : ℕ) (t : List ℕ) → Blank acts t → Linking t 0 t
 linking-none acts t h =
@@ -165,28 +187,34 @@ linking-none acts t h =
     }
   where
     next-none : (i : ℕ) → i < most → nextAt t i ≡ 0
-    next-none i b = h .blank (64 + i) (omega arith) (omega arith)
+    next-none i b = h .blank (nextFrom + i) (omega arith) (omega arith)
 
     near-none : (i : ℕ) → i < most → nearAt t i ≡ 0
-    near-none i b = h .blank (96 + i) (omega arith) (omega arith)
+    near-none i b = h .blank (nearFrom + i) (omega arith) (omega arith)
 
     blank-has : (x k : ℕ) → x ≡ 0 → has x k ≡ false
     blank-has x k e = ap (λ (y : ℕ). has y k) e ∙ has-none k
 
 -- Activity n gets its nearest predecessors x, and comes next after each of them.
-module _ (t : List ℕ) (n : ℕ) (l : List ℕ) (x : ℕ) (r : List ℕ) (below : n < most) (long : length t ≡ 131) (h : Linking t n l)
-    (low : Nearest l (predsAt l n) x) (joined : Joined (set l (96 + n) x) x n r) where
+module _ (t : List ℕ) (n : ℕ) (l : List ℕ) (x : ℕ) (r : List ℕ) (below : n < most) (long : length t ≡ words)
+    (h : Linking t n l)
+    (low : Nearest l (predsAt l n) x) (joined : LinkedNext (set l (nearFrom + n) x) x n r) where
   preds-same : (i : ℕ) → i < most → predsAt l i ≡ predsAt t i
-  preds-same i b = h .before (32 + i) (omega arith)
+  preds-same i b = h .before (predsFrom + i) (omega arith)
 
   near-here : nearAt r n ≡ x
-  near-here = joined .behind (96 + n) (omega arith) ∙ getD-set-same l (96 + n) x 0 (omega (arith, h .long))
+  near-here =
+      joined .behind (nearFrom + n) (omega arith) ∙ getD-set-same l (nearFrom + n) x 0 (omega (arith, h .long))
 
   near-there : (j : ℕ) → j ≢ n → nearAt r j ≡ nearAt l j
-  near-there j ne = joined .behind (96 + j) (omega arith) ∙ getD-set-other l (96 + n) (96 + j) x 0 (λ q. ne (omega arith))
+  near-there j ne =
+      joined .behind (nearFrom + j) (omega arith) ∙ getD-set-other l (nearFrom + n) (nearFrom + j) x 0
+      (λ q. ne (omega arith))
 
   next-is : (i : ℕ) → i < most → nextAt r i ≡ withIf (has x i) (nextAt l i) n
-  next-is i b = joined .next i b ∙ ap (λ (y : ℕ). withIf (has x i) y n) (getD-set-other l (96 + n) (64 + i) x 0 (λ q. omega arith))
+  next-is i b =
+      joined .next i b ∙ ap (λ (y : ℕ). withIf (has x i) y n) (getD-set-other l (nearFrom + n) (nextFrom + i) x 0
+      (λ q. omega arith))
 
   next-true : (i : ℕ) → i < most → has x i ≡ true → nextAt r i ≡ bitOr (nextAt l i) (2 ^ n)
   next-true i b e = next-is i b ∙ cond-true (bitOr (nextAt l i) (2 ^ n)) (nextAt l i) e
@@ -206,15 +234,18 @@ module _ (t : List ℕ) (n : ℕ) (l : List ℕ) (x : ℕ) (r : List ℕ) (below
   next-here i b =
       by-bool
       (has x i)
-      (λ e. ap (λ (y : ℕ). has y n) (next-true i b e) ∙ has-with (nextAt l i) n n ∙ ap (λ (y : Bool). has (nextAt l i) n || y) (eq-eqb n n refl) ∙ or-true (has (nextAt l i) n) ∙ sym e)
+      (λ e. ap (λ (y : ℕ). has y n) (next-true i b e) ∙ has-with (nextAt l i) n n
+      ∙ ap (λ (y : Bool). has (nextAt l i) n || y) (eq-eqb n n refl) ∙ or-true (has (nextAt l i) n) ∙ sym e)
       (λ e.
-      ap (λ (y : ℕ). has y n) (next-false i b e) ∙ h .next i n b below ∙ ap (λ (y : ℕ). has y i) (h .none n (omega arith) below) ∙ has-none i ∙ sym e)
+      ap (λ (y : ℕ). has y n) (next-false i b e) ∙ h .next i n b below
+      ∙ ap (λ (y : ℕ). has y i) (h .none n (omega arith) below) ∙ has-none i ∙ sym e)
 
   next-there : (i j : ℕ) → i < most → j ≢ n → has (nextAt r i) j ≡ has (nextAt l i) j
   next-there i j b ne =
       by-bool
       (has x i)
-      (λ e. ap (λ (y : ℕ). has y j) (next-true i b e) ∙ has-with (nextAt l i) n j ∙ ap (λ (y : Bool). has (nextAt l i) j || y) (ne-eqb j n ne) ∙ or-false (has (nextAt l i) j))
+      (λ e. ap (λ (y : ℕ). has y j) (next-true i b e) ∙ has-with (nextAt l i) n j
+      ∙ ap (λ (y : Bool). has (nextAt l i) j || y) (ne-eqb j n ne) ∙ or-false (has (nextAt l i) j))
       (λ e. ap (λ (y : ℕ). has y j) (next-false i b e))
 
   between : (k : ℕ) → has (predsAt t n) k ≡ true → has x k ≡ false → Between t n k
@@ -230,7 +261,7 @@ module _ (t : List ℕ) (n : ℕ) (l : List ℕ) (x : ℕ) (r : List ℕ) (below
   pub linking-more : Linking t (n + 1) r
   linking-more =
       record {
-        long = joined .long ∙ length-set l (96 + n) x ∙ h .long;
+        long = joined .long ∙ length-set l (nearFrom + n) x ∙ h .long;
         next-low = λ i b.
             by-bool
             (has x i)
@@ -250,8 +281,10 @@ module _ (t : List ℕ) (n : ℕ) (l : List ℕ) (x : ℕ) (r : List ℕ) (below
             (λ k ne c. next-there i k b ne ∙ h .next i k b c)
             j;
         none = λ j c b. near-there j (λ q. omega arith) ∙ h .none j (omega arith) b;
-        before = λ p b. joined .before p b ∙ getD-set-other l (96 + n) p x 0 (λ q. omega arith) ∙ h .before p b;
-        behind = λ p b. joined .behind p (omega arith) ∙ getD-set-other l (96 + n) p x 0 (λ q. omega arith) ∙ h .behind p b;
+        before = λ p b. joined .before p b ∙ getD-set-other l (nearFrom + n) p x 0 (λ q. omega arith) ∙ h .before p b;
+        behind =
+            λ p b. joined .behind p (omega arith) ∙ getD-set-other l (nearFrom + n) p x 0 (λ q. omega arith)
+            ∙ h .behind p b;
       }
 
 pub linking-all : (acts n : ℕ) (t l : List ℕ) → n ≡ acts → Blank acts t → Linking t n l → Links t l
@@ -271,7 +304,7 @@ linking-all acts n t l e blank h =
     }
   where
     same : (i : ℕ) → i < most → predsAt l i ≡ predsAt t i
-    same i b = h .before (32 + i) (omega arith)
+    same i b = h .before (predsFrom + i) (omega arith)
 
     has-same : (i k : ℕ) → i < most → has (predsAt l i) k ≡ has (predsAt t i) k
     has-same i k b = ap (λ (y : ℕ). has y k) (same i b)
@@ -284,4 +317,11 @@ linking-all acts n t l e blank h =
         (λ c. true-not-false m (ap (λ (y : ℕ). has y k) (blank .preds-none j (omega arith) b) ∙ has-none k))
 
     moved : (j k : ℕ) → j < most → Between t j k → Between l j k
-    moved j k b m = record { other = m .other; below = m .below; after = has-same j (m .other) b ∙ m .after; before = has-same (m .other) k (m .below) ∙ m .before }
+    moved j k b m =
+        record {
+          other = m .other;
+          below = m .below;
+          after = has-same j (m .other) b
+              ∙ m .after;
+          before = has-same (m .other) k (m .below) ∙ m .before;
+        }

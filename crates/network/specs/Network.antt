@@ -1,38 +1,69 @@
--- The table of one variant: a word for each activity and each of four columns, then the cap, the variant's number and the
--- number of the plan's activities.
-use Prim.Native.Nat.{ℕ, _+_, _*_, _^_, _≤_, _<_}
+-- The table of one variant: a word for each activity and each of four columns, then the cap, the variant's number and
+-- the number of the plan's activities.
+use Prim.Native.Nat.{ℕ, _+_, _*_, _^_, _<_, _/_, _%_}
 use mathlib.Core.Bool.{true, false}
 use mathlib.Core.List.{List}
 use mathlib.Core.Path.{_≡_}
-use lib.ListN.{getD, take}
-use Rattle.plan.specs.Limits.{longestDuration}
-use Rattle.sets.specs.Sets.{most, has}
-use Rattle.scan.proofs.Model.{devices}
+use lib.ListN.{getD}
+use Rattle.plan.specs.Limits.{packing}
+use Rattle.sets.specs.Sets.{most, has, width}
+use Rattle.variant.specs.declared.Variant.{Variant}
+use Rattle.variant.specs.Tables.{entryIn}
+use Rattle.variant.proofs.Tables.{preds-low}
 
--- 16 times the duration plus the resource.
+-- Where the columns begin but the first, and the three cells behind them.
+abbrev pub predsFrom : ℕ
+predsFrom = width
+
+abbrev pub nextFrom : ℕ
+nextFrom = 2 * width
+
+abbrev pub nearFrom : ℕ
+nearFrom = 3 * width
+
+abbrev pub capCell : ℕ
+capCell = 4 * width
+
+abbrev pub variantCell : ℕ
+variantCell = capCell + 1
+
+abbrev pub actsCell : ℕ
+actsCell = capCell + 2
+
+-- The length of the table.
+abbrev pub words : ℕ
+words = capCell + 3
+
+-- The duration and the resource of i as one number.
 abbrev pub packedAt : List ℕ → ℕ → ℕ
 packedAt t i = getD t i 0
 
+abbrev pub durationAt : List ℕ → ℕ → ℕ
+durationAt t i = packedAt t i / packing
+
+abbrev pub resourceAt : List ℕ → ℕ → ℕ
+resourceAt t i = packedAt t i % packing
+
 -- The predecessors of i.
 abbrev pub predsAt : List ℕ → ℕ → ℕ
-predsAt t i = getD t (32 + i) 0
+predsAt t i = getD t (predsFrom + i) 0
 
 -- Those that have i as a nearest predecessor.
 abbrev pub nextAt : List ℕ → ℕ → ℕ
-nextAt t i = getD t (64 + i) 0
+nextAt t i = getD t (nextFrom + i) 0
 
 -- The nearest predecessors of i.
 abbrev pub nearAt : List ℕ → ℕ → ℕ
-nearAt t i = getD t (96 + i) 0
+nearAt t i = getD t (nearFrom + i) 0
 
 abbrev pub capOf : List ℕ → ℕ
-capOf t = getD t 128 0
+capOf t = getD t capCell 0
 
 abbrev pub variantOf : List ℕ → ℕ
-variantOf t = getD t 129 0
+variantOf t = getD t variantCell 0
 
 abbrev pub actsOf : List ℕ → ℕ
-actsOf t = getD t 130 0
+actsOf t = getD t actsCell 0
 
 -- A predecessor that is not a nearest one precedes another predecessor.
 pub record Between (t : List ℕ) (j k : ℕ) : Type 0 where
@@ -49,20 +80,12 @@ pub record Linked (t : List ℕ) : Type 0 where
   pub far : (j k : ℕ) → j < most → has (predsAt t j) k ≡ true → has (nearAt t j) k ≡ false → Between t j k
   pub next : (i j : ℕ) → i < most → j < most → has (nextAt t i) j ≡ has (nearAt t j) i
 
--- The table of the first `acts` activities of three lists.
-pub record Network (durations resources preds : List ℕ) (acts variant cap : ℕ) (t : List ℕ) : Type 0 where
-  pub packed : (i : ℕ) → i < 32 → packedAt t i ≡ 16 * getD (take acts durations) i 0 + getD (take acts resources) i 0
-  pub befores : (i : ℕ) → i < 32 → predsAt t i ≡ getD (take acts preds) i 0
+-- The table of the variant x in tables.
+pub record Network (x : Variant) (number cap : ℕ) (t : List ℕ) : Type 0 where
+  pub packed :
+      (i : ℕ) → i < width → packedAt t i ≡ packing * entryIn x (x .duration) i + entryIn x (x .resource) i
+  pub befores : (i : ℕ) → i < width → predsAt t i ≡ entryIn x (x .preds) i
   pub linked : Linked t
   pub capped : capOf t ≡ cap
-  pub number : variantOf t ≡ variant
-  pub many : actsOf t ≡ acts
-
--- What a caller has to show: every number fits a word, and the sets are of activities.
-pub record Tabled (durations resources preds : List ℕ) (acts variant cap : ℕ) : Type 0 where
-  pub few : acts ≤ most
-  pub short : (i : ℕ) → i < acts → getD durations i 0 ≤ longestDuration
-  pub known : (i : ℕ) → i < acts → getD resources i 0 < devices
-  pub sets : (i : ℕ) → i < acts → getD preds i 0 < 2 ^ most
-  pub cell : variant < 2 ^ 16
-  pub word : cap < 2 ^ 32
+  pub number-is : variantOf t ≡ number
+  pub many : actsOf t ≡ x .acts

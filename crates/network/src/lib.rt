@@ -1,50 +1,77 @@
 // The activities of one variant as the search reads them, in one table of words.
-use members::after_lowest;
-use members::lowest;
-use plan::MOST_ACTS;
+use plan::MOST_RESOURCES;
+use sets::WIDTH;
+use sets::after_lowest;
+use sets::lowest;
+use variant::Variant;
 ghost use mathlib.Core.Path.{_≡_};
-ghost use Prim.Native.Nat.{_^_, _<_};
+ghost use Prim.Native.Nat.{_+_, _*_, _/_, _%_, _^_, _≤_, _<_};
+ghost use Rattle.plan.specs.Limits.{packing};
 ghost use lib.ListN.{length};
 ghost use Rattle.sets.specs.Sets.{most};
-ghost use Rattle.network.specs.Network.{Network, Tabled};
-ghost use Rattle.network.specs.Steps.{Filling, Columns, Nearest, Joined, Blank, Links};
+ghost use Rattle.variant.specs.Tables.{Tabled};
+ghost use Rattle.network.specs.Network.{Network, words};
+ghost use Rattle.network.specs.Steps.{Columns, Nearest, LinkedNext, Blank, Links};
+ghost use Rattle.variant.specs.declared.Variant.{Variant};
 
-// Where the columns begin: the predecessors of each activity, those that have it as a nearest predecessor, and its nearest
-// predecessors, which precede no other of its predecessors. The first column has 16 times the duration plus the resource.
-pub const PREDS: usize = 32;
+// Where the columns begin: the predecessors of each activity, those that have it as a nearest predecessor, and its
+// nearest predecessors, which precede no other of its predecessors. The first column has the duration and the
+// resource as one word.
+pub const PREDS: usize = WIDTH;
 
-pub const NEXT: usize = 64;
+pub const NEXT: usize = 2 * WIDTH;
 
-pub const NEAR: usize = 96;
+pub const NEAR: usize = 3 * WIDTH;
 
-pub const CAP: usize = 128;
+pub const CAP: usize = 4 * WIDTH;
 
-pub const VARIANT: usize = 129;
+pub const VARIANT: usize = CAP + 1;
 
-pub const ACTS: usize = 130;
+pub const ACTS: usize = CAP + 2;
+
+pub const WORDS: usize = CAP + 3;
+
+pub type Table = [u32; WORDS];
+
+// A duration and a resource are one word: so many times the duration, plus the resource.
+pub const PACKING: u32 = MOST_RESOURCES as u32;
+
+pub fn packed(duration: u16, resource: u16) -> u32
+    ensures { λ r. ⌜ r ≡ packing * duration + resource ⌝ }
+{
+    PACKING * duration as u32 + resource as u32
+}
+
+pub fn duration_of(word: u32) -> u32
+    ensures { λ r. ⌜ r ≡ word / packing ⌝ }
+{
+    word / PACKING
+}
+
+pub fn resource_of(word: u32) -> usize
+    ensures { λ r. ⌜ r ≡ word % packing ⌝ }
+{
+    (word % PACKING) as usize
+}
 
 // The columns of work and of predecessors.
-fn filled(
-    durations: &[u16; MOST_ACTS],
-    resources: &[u16; MOST_ACTS],
-    preds: &[u32; MOST_ACTS],
-    acts: usize,
-) -> [u32; 131]
-    requires { ⌜ Filling (now durations) (now resources) acts ⌝ }
-    ensures { λ r. ⌜ Columns (now (durations .entry)) (now (resources .entry)) (now (preds .entry)) acts r ⌝ }
+fn filled(x: Variant) -> Table
+    requires { ⌜ x .acts ≤ most ⌝ }
+    ensures { λ r. ⌜ Columns x r ⌝ }
 {
-    let mut table = [0; 131];
+    let mut table = [0; WORDS];
+    let acts = x.acts;
     let mut i = 0;
     while i < acts {
-        table[i] = (16 * durations[i] + resources[i]) as u32;
-        table[PREDS + i] = preds[i];
+        table[i] = packed(x.duration[i], x.resource[i]);
+        table[PREDS + i] = x.preds[i];
         i += 1;
     }
     table
 }
 
 // The members of a set that precede no other of its members.
-fn nearest(table: &[u32; 131], set: u32) -> u32
+fn nearest(table: &Table, set: u32) -> u32
     requires { ⌜ set < 2 ^ most ⌝ }
     ensures { λ r. ⌜ Nearest (now (table .entry)) set r ⌝ }
 {
@@ -59,9 +86,9 @@ fn nearest(table: &[u32; 131], set: u32) -> u32
 }
 
 // Activity j comes next after each member of a set.
-fn link(table: &mut [u32; 131], set: u32, j: usize)
-    requires { ⌜ (length (now table) ≡ 131) × (set < 2 ^ most) × (j < most) ⌝ }
-    ensures { λ _. ⌜ Joined (now (table .entry)) set j (now (table .exit)) ⌝ }
+fn link(table: &mut Table, set: u32, j: usize)
+    requires { ⌜ (length (now table) ≡ words) × (set < 2 ^ most) × (j < most) ⌝ }
+    ensures { λ _. ⌜ LinkedNext (now (table .entry)) set j (now (table .exit)) ⌝ }
 {
     let mut rest = set;
     while rest != 0 {
@@ -72,7 +99,7 @@ fn link(table: &mut [u32; 131], set: u32, j: usize)
 }
 
 // The columns of nearest predecessors and of what comes next.
-fn link_all(table: &mut [u32; 131], acts: usize)
+fn link_all(table: &mut Table, acts: usize)
     requires { ⌜ Blank acts (now table) ⌝ }
     ensures { λ _. ⌜ Links (now (table .entry)) (now (table .exit)) ⌝ }
 {
@@ -86,21 +113,15 @@ fn link_all(table: &mut [u32; 131], acts: usize)
     }
 }
 
-// The table of a variant of the first `acts` activities.
-pub fn network(
-    durations: &[u16; MOST_ACTS],
-    resources: &[u16; MOST_ACTS],
-    preds: &[u32; MOST_ACTS],
-    acts: usize,
-    variant: u64,
-    cap: u64,
-) -> [u32; 131]
-    requires { ⌜ Tabled (now durations) (now resources) (now preds) acts variant cap ⌝ }
-    ensures { λ r. ⌜ Network (now (durations .entry)) (now (resources .entry)) (now (preds .entry)) acts variant cap r ⌝ }
+// The table of the variant with that number.
+pub fn network(x: Variant, number: u32, cap: u32) -> Table
+    requires { ⌜ Tabled x number ⌝ }
+    ensures { λ r. ⌜ Network x number cap r ⌝ }
 {
-    let mut table = filled(durations, resources, preds, acts);
-    table[CAP] = cap as u32;
-    table[VARIANT] = variant as u32;
+    let mut table = filled(x);
+    let acts = x.acts;
+    table[CAP] = cap;
+    table[VARIANT] = number;
     table[ACTS] = acts as u32;
     link_all(&mut table, acts);
     table

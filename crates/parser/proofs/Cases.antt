@@ -1,4 +1,4 @@
--- Tests, and choices by a test.
+-- Cases, and tests of a range.
 use Prim.Native.Nat.{ℕ, zero, suc, _≤_, _<_}
 use mathlib.Core.Bool.{Bool, true, false, _&&_}
 use mathlib.Core.List.{List, [], _∷_}
@@ -8,16 +8,8 @@ use native.Mathlib.Nat.{not-suc-le-zero}
 use native.Mathlib.Omega.{arith}
 use lib.Dec.{leb}
 use lib.ListN.{length, getD}
-use borrow.Author.Tests.{leb-true, le-leb, lt-leb}
+use borrow.Author.Tests.{le-leb, lt-leb}
 use Rattle.plan.specs.Limits.{between}
-
-pub false-true {ℓ} : {A : Type ℓ} → false ≡ true → A
-false-true e = let z : _≡_ {A = ℕ} 0 1 = cc in absurd (omega arith)
-
--- By the value of a test.
-pub by-test {ℓ} : {A : Type ℓ} (b : Bool) → (b ≡ true → A) → (b ≡ false → A) → A
-by-test true f g = f refl
-by-test false f g = g refl
 
 pub by-dec {ℓ κ} : {A : Type ℓ} {C : Type κ} → Dec A → (A → C) → ((A → ⊥) → C) → C
 by-dec (yes a) f g = f a
@@ -27,27 +19,9 @@ pub by-option {ℓ κ} : {A : Type ℓ} {C : Type κ} (o : Option A) → (o ≡ 
 by-option none f g = f refl
 by-option (some a) f g = g a refl
 
-pub if-true {ℓ} : {A : Type ℓ} (b : Bool) (x y : A) → b ≡ true → _≡_ {A = A} (elim b [ true ↦ x | false ↦ y ]) x
-if-true true x y e = refl
-if-true false x y e = false-true e
-
-pub if-false {ℓ} : {A : Type ℓ} (b : Bool) (x y : A) → b ≡ false → _≡_ {A = A} (elim b [ true ↦ x | false ↦ y ]) y
-if-false true x y e = false-true (cc)
-if-false false x y e = refl
-
-pub and-true : (a b : Bool) → (a && b) ≡ true → (a ≡ true) × (b ≡ true)
-and-true true true e = (refl, refl)
-and-true true false e = false-true e
-and-true false b e = false-true e
-
 pub and-false : (a : Bool) → (a && false) ≡ false
 and-false true = refl
 and-false false = refl
-
-pub between-true : (low high n : ℕ) → between low high n ≡ true → (low ≤ n) × (n ≤ high)
-between-true low high n e =
-    let p = and-true (leb low n) (leb n high) e in
-    (leb-true low n (p .0), leb-true n high (p .1))
 
 pub between-from : (low high n : ℕ) → low ≤ n → leb n high ≡ between low high n
 between-from low high n h = ap (λ (b : Bool). b && leb n high) (sym (le-leb low n h))

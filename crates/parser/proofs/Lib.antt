@@ -2,7 +2,7 @@
 pub mod Cases
 pub mod Values
 pub mod Forms
-pub mod States
+pub mod Cursors
 pub mod Ranges
 pub mod Readers
 pub mod Loops

@@ -1,4 +1,4 @@
--- The lines in their order are the plan's lines, and the last state gives the answer.
+-- The lines in their order are the plan's lines, and the last cursor gives the answer.
 use Prim.Native.Nat.{ℕ, _≤_, _<_}
 use mathlib.Core.Bool.{Bool, true, false, _||_}
 use mathlib.Core.List.{List}
@@ -8,34 +8,26 @@ use native.Mathlib.Omega.{arith}
 use lib.Dec.{eqb, ltb}
 use lib.ListN.{length}
 use borrow.Author.Tests.{eqb-true, eqb-false, ne-eqb, le-ltb}
-use Rattle.plan.specs.Limits.{
-  between,
-  longest,
-  mostResources,
-  mostActs,
-  mostNodes,
-  isEdition,
-  editionForm,
-  resourcesForm,
-  actsForm,
-  nodesForm,
-}
+use Rattle.plan.specs.Limits.{between, longest, mostResources, mostActs, mostNodes, isEdition, editionForm}
+use Rattle.plan.specs.Limits.{resourcesForm, actsForm, nodesForm}
 use Rattle.plan.specs.Plan.{Activity, Node, Plan, planOf}
 use Rattle.plan.specs.declared.Tables.{Tables}
 use Rattle.plan.specs.declared.Refusal.the-variants.{Length}
-use Rattle.format.specs.Parse.{Outcome, read, stop, Reader, _>>=_, return, aLine, theLines, theEnd, number, planLines, Result, holds, refuses, parse}
+use Rattle.format.specs.Parse.{LinesRead, read, stop, Reader, _>>=_, return, aLine, theLines, theEnd, number}
+use Rattle.format.specs.Parse.{planLines, Result, holds, refuses, parse}
 use Rattle.parser.specs.declared.Parsed.{Parsed}
-use Rattle.parser.specs.declared.State.{State}
+use Rattle.parser.specs.declared.Cursor.{Cursor}
 use Rattle.parser.specs.declared.Verdict.{Verdict}
 use Rattle.parser.specs.declared.Verdict.the-variants.{Accepted, Refused}
 use Rattle.parser.specs.Answer.{resultOf, verdictOf, Answers}
 use Rattle.parser.specs.Steps.{outcome, resumed, anActivity, aNode, Reads}
-use Rattle.parser.proofs.Cases.{by-test, by-dec, if-true, if-false, between-under, between-over}
-use Rattle.parser.proofs.States.{outcome-in, outcome-out, verdict-in, verdict-out}
+use Rattle.base.proofs.Bools.{by-bool, elim-true, elim-false}
+use Rattle.parser.proofs.Cases.{by-dec, between-under, between-over}
+use Rattle.parser.proofs.Cursors.{outcome-in, outcome-out, verdict-in, verdict-out}
 
 edition-is : (n : ℕ) → between 1 1 n ≡ isEdition n
 edition-is n =
-    by-test (eqb n 1)
+    by-bool (eqb n 1)
     (λ e. ap (λ (k : ℕ). between 1 1 k) (eqb-true n 1 e) ∙ sym e)
     (λ e.
     by-dec (decLe n 1)
@@ -45,53 +37,59 @@ edition-is n =
     less : (n : ℕ) → n ≤ 1 → (n ≡ 1 → ⊥) → n < 1
     less n h other = omega arith
 
-abbrev bound : {A B : Type 0} → Outcome A → (A → Reader B) → Outcome B
+abbrev bound : {A B : Type 0} → LinesRead A → (A → Reader B) → LinesRead B
 bound o then = elim o [ read a line s ↦ then a line s | stop r ↦ stop r ]
 
 -- One step of the whole.
-step : {A B C : Type 0} (s : List ℕ) (st st′ : State) (a : A) (b : B) (lines : ℕ) (reader : A → Reader B) (then : A → B → Reader C)
-    → Reads s st (reader a) lines st′ b → bound (outcome s st a) (λ (x : A). _>>=_ (reader x) (then x)) ≡ bound (outcome s st′ b) (then a)
+step : {A B C : Type 0} {s : List ℕ} {c c′ : Cursor} (a : A) {b : B} {lines : ℕ} (reader : A → Reader B)
+    (then : A → B → Reader C) → Reads s c (reader a) lines c′ b
+    → bound (outcome s c a) (λ (x : A). _>>=_ (reader x) (then x)) ≡ bound (outcome s c′ b) (then a)
 unfolding resumed
-step {B = B} {C = C} s st st′ a b lines reader then r =
-    by-dec (decLe (st .at) (length s))
+step {B = B} {s = s} {c} a {b} reader then r =
+    let after : LinesRead B → LinesRead _ = λ o. bound o (then a) in
+    let again : LinesRead (Unit {0}) → LinesRead B = λ o. resumed o (reader a) in
+    by-dec (decLe (c .at) (length s))
     (λ h.
-    ap (λ o. bound o (λ x. _>>=_ (reader x) (then x))) (outcome-in s st a h)
-    ∙ sym (ap (λ (o : Outcome B). bound o (then a)) (r .outcome-is ∙ ap (λ (o : Outcome (Unit {0})). resumed o (reader a)) (outcome-in s st tt h))))
+    ap (λ o. bound o (λ x. _>>=_ (reader x) (then x))) (outcome-in s c a h)
+    ∙ sym (ap after (r .outcome-is ∙ ap again (outcome-in s c tt h))))
     (λ h.
-    ap (λ o. bound o (λ x. _>>=_ (reader x) (then x))) (outcome-out s st a (omega arith))
-    ∙ sym (ap (λ (o : Outcome B). bound o (then a)) (r .outcome-is ∙ ap (λ (o : Outcome (Unit {0})). resumed o (reader a)) (outcome-out s st tt (omega arith)))))
+    ap (λ o. bound o (λ x. _>>=_ (reader x) (then x))) (outcome-out s c a (omega arith))
+    ∙ sym (ap after (r .outcome-is ∙ ap again (outcome-out s c tt (omega arith)))))
 
-returned : {A B : Type 0} (s : List ℕ) (st : State) (a : A) (b : B) → bound (outcome s st a) (λ (x : A). return b) ≡ outcome s st b
-returned {A} s st a b =
-    by-dec (decLe (st .at) (length s))
-    (λ h. ap (λ (o : Outcome A). bound o (λ x. return b)) (outcome-in s st a h) ∙ sym (outcome-in s st b h))
-    (λ h. ap (λ (o : Outcome A). bound o (λ x. return b)) (outcome-out s st a (omega arith)) ∙ sym (outcome-out s st b (omega arith)))
+returned : {A B : Type 0} (s : List ℕ) (c : Cursor) (a : A) (b : B)
+    → bound (outcome s c a) (λ (x : A). return b) ≡ outcome s c b
+returned {A} s c a b =
+    let after : LinesRead A → LinesRead _ = λ o. bound o (λ x. return b) in
+    by-dec (decLe (c .at) (length s))
+    (λ h. ap after (outcome-in s c a h) ∙ sym (outcome-in s c b h))
+    (λ h. ap after (outcome-out s c a (omega arith)) ∙ sym (outcome-out s c b (omega arith)))
 
-abbrev concluded : Outcome Plan → Result
+abbrev concluded : LinesRead Plan → Result
 concluded o = elim o [ read p line rest ↦ holds p | stop r ↦ refuses r ]
 
 parse-lines : (s : List ℕ) → 0 < length s → length s ≤ longest → parse s ≡ concluded (planLines 1 s)
 unfolding parse
 parse-lines s low high =
-    if-false (eqb (length s) 0 || ltb longest (length s)) _ _
-    (ap (λ (b : Bool). b || ltb longest (length s)) (ne-eqb (length s) 0 (λ e. omega arith)) ∙ le-ltb longest (length s) high)
+    elim-false (eqb (length s) 0 || ltb longest (length s)) _ _
+    (ap (λ (b : Bool). b || ltb longest (length s)) (ne-eqb (length s) 0 (λ e. omega arith))
+    ∙ le-ltb longest (length s) high)
 
--- The verdict of the last state, with the tables of what was read.
-answered : (s : List ℕ) (st : State) (v : Verdict) (t : Tables) → v ≡ verdictOf (outcome s st (tt {0}))
-    → resultOf (record { verdict = v; tables = t }) ≡ concluded (outcome s st (planOf t))
-answered s st v t e =
-    by-dec (decLe (st .at) (length s))
+-- The verdict of the last cursor, with the tables of what was read.
+answered : (s : List ℕ) (c : Cursor) (v : Verdict) (t : Tables) → v ≡ verdictOf (outcome s c (tt {0}))
+    → resultOf (record { verdict = v; tables = t }) ≡ concluded (outcome s c (planOf t))
+answered s c v t e =
+    by-dec (decLe (c .at) (length s))
     (λ h.
-    ap (λ (x : Verdict). resultOf (record { verdict = x; tables = t })) (e ∙ sym (verdict-in s st h))
-    ∙ sym (ap concluded (outcome-in s st (planOf t) h)))
+    ap (λ (x : Verdict). resultOf (record { verdict = x; tables = t })) (e ∙ sym (verdict-in s c h))
+    ∙ sym (ap concluded (outcome-in s c (planOf t) h)))
     (λ h.
-    ap (λ (x : Verdict). resultOf (record { verdict = x; tables = t })) (e ∙ sym (verdict-out s st (omega arith)))
-    ∙ sym (ap concluded (outcome-out s st (planOf t) (omega arith))))
+    ap (λ (x : Verdict). resultOf (record { verdict = x; tables = t })) (e ∙ sym (verdict-out s c (omega arith)))
+    ∙ sym (ap concluded (outcome-out s c (planOf t) (omega arith))))
 
-abbrev start : State
+abbrev start : Cursor
 start = record { at = 0; line = 1; range = false }
 
-module _ (s : List ℕ) (s₁ s₂ s₃ s₄ s₅ s₆ s₇ : State) (e r n m : ℕ) (acts : List Activity) (nodes : List Node)
+module _ {s : List ℕ} {s₁ s₂ s₃ s₄ s₅ s₆ s₇ : Cursor} {e r n m : ℕ} {acts : List Activity} {nodes : List Node}
     (edition : Reads s start (aLine editionForm number (between 1 1)) 1 s₁ e)
     (resources : Reads s s₁ (aLine resourcesForm number (between 1 mostResources)) 1 s₂ r)
     (act-count : Reads s s₂ (aLine actsForm number (between 1 mostActs)) 1 s₃ n)
@@ -99,25 +97,26 @@ module _ (s : List ℕ) (s₁ s₂ s₃ s₄ s₅ s₆ s₇ : State) (e r n m : 
     (node-count : Reads s s₄ (aLine nodesForm number (between 1 mostNodes)) 1 s₅ m)
     (tree : Reads s s₅ (theLines m (aNode n)) m s₆ nodes)
     (end : Reads s s₆ theEnd 0 s₇ (tt {0})) where
-  pub plan-lines : planLines 1 s ≡ outcome s s₇ (record { resources = r; activities = acts; nodes = nodes })
+  plan-lines : planLines 1 s ≡ outcome s s₇ (record { resources = r; activities = acts; nodes = nodes })
   unfolding planLines
   plan-lines =
       let first : Reads s start (aLine editionForm number isEdition) 1 s₁ e =
-      subst (λ (fits : ℕ → Bool). Reads s start (aLine editionForm number fits) 1 s₁ e) (fun-ext edition-is) edition in
-      ap (λ (o : Outcome (Unit {0})). bound o (λ u. planLines)) (sym (outcome-in s start tt (omega arith)))
-      ∙ step s start s₁ (tt {0}) e 1 (λ _. aLine editionForm number isEdition) _ first
-      ∙ step s s₁ s₂ e r 1 (λ _. aLine resourcesForm number (between 1 mostResources)) _ resources
-      ∙ step s s₂ s₃ r n 1 (λ _. aLine actsForm number (between 1 mostActs)) _ act-count
-      ∙ step s s₃ s₄ n acts n (λ k. theLines k (anActivity r)) _ activities
-      ∙ step s s₄ s₅ acts m 1 (λ _. aLine nodesForm number (between 1 mostNodes)) _ node-count
-      ∙ step s s₅ s₆ m nodes m (λ k. theLines k (aNode n)) _ tree
-      ∙ step s s₆ s₇ nodes (tt {0}) 0 (λ _. theEnd) _ end
+      subst (λ (fits : ℕ → Bool). Reads s start (aLine editionForm number fits) 1 s₁ e) (fun-ext edition-is) edition
+      in
+      ap (λ (o : LinesRead (Unit {0})). bound o (λ u. planLines)) (sym (outcome-in s start tt (omega arith)))
+      ∙ step (tt {0}) (λ _. aLine editionForm number isEdition) _ first
+      ∙ step e (λ _. aLine resourcesForm number (between 1 mostResources)) _ resources
+      ∙ step r (λ _. aLine actsForm number (between 1 mostActs)) _ act-count
+      ∙ step n (λ k. theLines k (anActivity r)) _ activities
+      ∙ step acts (λ _. aLine nodesForm number (between 1 mostNodes)) _ node-count
+      ∙ step m (λ k. theLines k (aNode n)) _ tree
+      ∙ step nodes (λ _. theEnd) _ end
       ∙ returned s s₇ (tt {0}) (record { resources = r; activities = acts; nodes = nodes })
 
-  pub answers : 0 < length s → length s ≤ longest → (v : Verdict) (t : Tables) → v ≡ verdictOf (outcome s s₇ (tt {0}))
-      → planOf t ≡ record { resources = r; activities = acts; nodes = nodes } → t .acts ≤ mostActs → t .nodes ≤ mostNodes
-      → Answers s (record { verdict = v; tables = t })
-  answers low high v t is plan few small =
+  pub answers : 0 < length s → length s ≤ longest → {v : Verdict} {t : Tables} → v ≡ verdictOf (outcome s s₇ (tt {0}))
+      → planOf t ≡ record { resources = r; activities = acts; nodes = nodes } → t .acts ≤ mostActs
+      → t .nodes ≤ mostNodes → Answers s (record { verdict = v; tables = t })
+  answers low high {v} {t} is plan few small =
       record {
         result =
             answered s s₇ v t is ∙ ap (λ (p : Plan). concluded (outcome s s₇ p)) plan
@@ -127,13 +126,14 @@ module _ (s : List ℕ) (s₁ s₂ s₃ s₄ s₅ s₆ s₇ : State) (e r n m : 
       }
 
 -- A text of a wrong length.
-pub refused-length : (s : List ℕ) (p : Parsed) → p .verdict ≡ Refused Length → (eqb (length s) 0 || ltb longest (length s)) ≡ true → Answers s p
+pub refused-length : {s : List ℕ} {p : Parsed} → p .verdict ≡ Refused Length
+    → (eqb (length s) 0 || ltb longest (length s)) ≡ true → Answers s p
 unfolding parse
-refused-length s p e wrong =
+refused-length {s} {p} e wrong =
     record {
       result =
           ap (λ (v : Verdict). resultOf (record { verdict = v; tables = p .tables })) e
-          ∙ sym (if-true (eqb (length s) 0 || ltb longest (length s)) _ _ wrong);
+          ∙ sym (elim-true (eqb (length s) 0 || ltb longest (length s)) _ _ wrong);
       acts = λ a. never a;
       nodes = λ a. never a;
     }

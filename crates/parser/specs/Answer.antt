@@ -4,7 +4,7 @@ use mathlib.Core.List.{List}
 use mathlib.Core.Path.{_≡_}
 use Rattle.plan.specs.Limits.{mostActs, mostNodes}
 use Rattle.plan.specs.Plan.{planOf}
-use Rattle.format.specs.Parse.{Outcome, read, stop, Result, holds, refuses, parse}
+use Rattle.format.specs.Parse.{LinesRead, read, stop, Result, holds, refuses, parse}
 use Rattle.parser.specs.declared.Parsed.{Parsed}
 use Rattle.parser.specs.declared.Verdict.{Verdict}
 use Rattle.parser.specs.declared.Verdict.the-variants.{Accepted, Refused}
@@ -12,7 +12,7 @@ use Rattle.parser.specs.declared.Verdict.the-variants.{Accepted, Refused
 abbrev pub resultOf : Parsed → Result
 resultOf p = elim (p .verdict) [ Accepted ↦ holds (planOf (p .tables)) | Refused r ↦ refuses r ]
 
-unfoldable pub verdictOf : {A : Type 0} → Outcome A → Verdict
+unfoldable pub verdictOf : {A : Type 0} → LinesRead A → Verdict
 verdictOf (read a line s) = Accepted
 verdictOf (stop r) = Refused r
 

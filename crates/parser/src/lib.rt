@@ -1,15 +1,17 @@
 // Reads the text of a plan file into tables, in one pass. A position past the end of the text is nowhere: nothing is
 // found there, and what follows it is nowhere too.
-ghost use Prim.Native.Nat.{ℕ, _+_, _≤_, _<_};
+ghost use Prim.Native.Nat.{_+_, _≤_, _<_};
 ghost use mathlib.Core.Path.{_≡_};
 ghost use mathlib.Core.List.{[], _∷_};
 ghost use mathlib.Core.Option.{none};
 ghost use lib.ListN.{length, getD, take};
-ghost use Rattle.plan.specs.Limits.{between, longest, mostResources, mostActs, mostNodes};
+ghost use Rattle.plan.specs.Limits.{between, longest, mostDigits, mostResources, mostActs, mostNodes};
 ghost use Rattle.plan.specs.Plan.{isLetter, isActivity, isNode, nodeOf, activitiesOf, nodesOf};
+ghost use Rattle.format.specs.Lines.{isSized, slots};
 ghost use Rattle.format.specs.Parse.{theLines, theEnd};
 ghost use Rattle.parser.specs.Answer.{Answers, verdictOf};
-ghost use Rattle.parser.specs.Steps.{stepped, scanned, isValueOf, started, seen, advance, holes, outcome, anActivity, aNode, Judged, Reads, ReadsCount};
+ghost use Rattle.parser.specs.Steps.{stepped, digitsRead, started, seen, advance, outcome, anActivity, aNode};
+ghost use Rattle.parser.specs.Steps.{TakesLine, Reads, ReadsCount};
 use plan::MOST_ACTS;
 use plan::MOST_NODES;
 use plan::Refusal;
@@ -52,39 +54,39 @@ struct Line {
 
 // The next line starts at `at` and has the number `line`. Where `at` is nowhere this line is refused: its values are
 // out of range, or it has not its form.
-struct State {
+struct Cursor {
     at: usize,
     line: u64,
     range: bool,
 }
 
-// A line that was read, and the state after it. Where it is refused its values mean nothing.
+// A line that was read, and the cursor after it. Where it is refused its values mean nothing.
 struct CountLine {
-    state: State,
+    cursor: Cursor,
     value: u32,
 }
 
 struct ActivityLine {
-    state: State,
+    cursor: Cursor,
     resource: u16,
     duration: u16,
 }
 
-// Lines that were read, and the state after them.
+// Lines that were read, and the cursor after them.
 struct ActivityTable {
-    state: State,
+    cursor: Cursor,
     resource: [u16; MOST_ACTS],
     duration: [u16; MOST_ACTS],
 }
 
 struct NodeLine {
-    state: State,
+    cursor: Cursor,
     letter: u8,
     number: u8,
 }
 
 struct NodeTable {
-    state: State,
+    cursor: Cursor,
     letter: [u8; MOST_NODES],
     number: [u8; MOST_NODES],
 }
@@ -133,8 +135,8 @@ fn digit(file: &[u8], n: Digits) -> Digits
 }
 
 // The digits from a position on, at most six of them: a value has no more than five.
-fn scan(file: &[u8], at: usize) -> Digits
-    ensures { λ r. ⌜ r ≡ scanned (now (file .entry)) at ⌝ }
+fn read_digits(file: &[u8], at: usize) -> Digits
+    ensures { λ r. ⌜ r ≡ digitsRead (now (file .entry)) at ⌝ }
 {
     let mut n = Digits { at, total: 0 };
     let mut i: usize = 0;
@@ -146,7 +148,7 @@ fn scan(file: &[u8], at: usize) -> Digits
 }
 
 fn is_value(size: usize, first: u8) -> bool
-    ensures { λ r. ⌜ r ≡ isValueOf size first ⌝ }
+    ensures { λ r. ⌜ r ≡ isSized mostDigits size first ⌝ }
 {
     match size {
         1 => true,
@@ -183,7 +185,7 @@ fn value(file: &[u8], line: Line) -> Line
     ensures { λ r. ⌜ seen (now (file .entry)) r ≡ advance (35 ∷ []) (seen (now (file .entry)) line) ⌝ }
 {
     let at = line.next;
-    let n = scan(file, at);
+    let n = read_digits(file, at);
     let size = n.at - at;
     if is_value(size, byte(file, at)) {
         Line {
@@ -246,7 +248,8 @@ fn piece(file: &[u8], line: Line, b: u8) -> Line
 
 // The line of a form at a position.
 fn read_line(file: &[u8], at: usize, form: &[u8]) -> Line
-    ensures { λ r. ⌜ seen (now (file .entry)) r ≡ advance (now (form .entry)) (seen (now (file .entry)) (started at)) ⌝ }
+    ensures { λ r.
+        ⌜ seen (now (file .entry)) r ≡ advance (now (form .entry)) (seen (now (file .entry)) (started at)) ⌝ }
 {
     let mut line = Line {
         next: at,
@@ -262,51 +265,54 @@ fn read_line(file: &[u8], at: usize, form: &[u8]) -> Line
 }
 
 // One line after what came before: 2 where it has not its form, then 3 where its values do not fit.
-fn judged(file: &[u8], state: State, line: Line, fits: bool) -> State
-    requires { ⌜ state .line < 1000 ⌝ }
-    ensures { λ r. ⌜ Judged (now (file .entry)) state line fits r ⌝ }
+fn take_line(file: &[u8], cursor: Cursor, line: Line, fits: bool) -> Cursor
+    requires { ⌜ cursor .line < 1000 ⌝ }
+    ensures { λ r. ⌜ TakesLine (now (file .entry)) cursor line fits r ⌝ }
 {
     let size = file.len();
-    if state.at > size {
-        return state;
+    if cursor.at > size {
+        return cursor;
     }
     if line.next > size {
-        return State {
+        return Cursor {
             at: line.next,
-            line: state.line,
+            line: cursor.line,
             range: false,
         };
     }
     if fits {
-        State {
+        Cursor {
             at: line.next,
-            line: state.line + 1,
+            line: cursor.line + 1,
             range: false,
         }
     } else {
-        State {
+        Cursor {
             at: nowhere(file),
-            line: state.line,
+            line: cursor.line,
             range: true,
         }
     }
 }
 
 // A line of one value.
-fn read_count(file: &[u8], state: State, form: &[u8], low: u32, high: u32) -> CountLine
-    requires { ⌜ (state .line < 1000) × (holes (now form) ≡ 1) ⌝ }
-    ensures { λ r. ⌜ ReadsCount (now (file .entry)) state (now (form .entry)) low high r ⌝ }
+fn read_count(file: &[u8], cursor: Cursor, form: &[u8], low: u32, high: u32) -> CountLine
+    requires { ⌜ (cursor .line < 1000) × (slots (now form) ≡ 1) ⌝ }
+    ensures { λ r. ⌜ ReadsCount (now (file .entry)) cursor (now (form .entry)) low high r ⌝ }
 {
-    let at = state.at;
+    let at = cursor.at;
     let line = read_line(file, at, form);
     let value = line.second;
     let fits = in_range(low, high, value);
-    let next = judged(file, state, line, fits);
+    let next = take_line(file, cursor, line, fits);
     if fits {
-        CountLine { state: next, value }
+        CountLine {
+            cursor: next,
+            value,
+        }
     } else {
         CountLine {
-            state: next,
+            cursor: next,
             value: 0,
         }
     }
@@ -322,49 +328,51 @@ fn is_activity(resources: u32, resource: u32, duration: u32) -> bool
     }
 }
 
-fn read_activity(file: &[u8], state: State, resources: u32) -> ActivityLine
-    requires { ⌜ (state .line < 1000) × (resources ≤ mostResources) ⌝ }
-    ensures { λ r. ⌜ Reads (now (file .entry)) state (anActivity resources) 1 (r .state) (record { resource = r .resource; duration = r .duration }) ⌝ }
+fn read_activity(file: &[u8], cursor: Cursor, resources: u32) -> ActivityLine
+    requires { ⌜ (cursor .line < 1000) × (resources ≤ mostResources) ⌝ }
+    ensures { λ r.
+        ⌜ Reads (now (file .entry)) cursor (anActivity resources) 1 (r .cursor)
+        (record { resource = r .resource; duration = r .duration }) ⌝ }
 {
-    let at = state.at;
-    let line = read_line(file, at, b"act=#,#\n");
+    let at = cursor.at;
+    let line = read_line(file, at, &plan::ACT_FORM);
     let resource = line.first;
     let duration = line.second;
     let fits = is_activity(resources, resource, duration);
-    let next = judged(file, state, line, fits);
+    let next = take_line(file, cursor, line, fits);
     if fits {
         ActivityLine {
-            state: next,
+            cursor: next,
             resource: resource as u16,
             duration: duration as u16,
         }
     } else {
         ActivityLine {
-            state: next,
+            cursor: next,
             resource: 0,
             duration: 0,
         }
     }
 }
 
-fn read_activities(file: &[u8], state: State, resources: u32, acts: usize) -> ActivityTable
-    requires { ⌜ (state .line < 100) × (resources ≤ mostResources) × (acts ≤ mostActs) ⌝ }
+fn read_activities(file: &[u8], cursor: Cursor, resources: u32, acts: usize) -> ActivityTable
+    requires { ⌜ (cursor .line < 100) × (resources ≤ mostResources) × (acts ≤ mostActs) ⌝ }
     ensures { λ r.
-        ⌜ Reads (now (file .entry)) state (theLines acts (anActivity resources)) acts (r .state)
+        ⌜ Reads (now (file .entry)) cursor (theLines acts (anActivity resources)) acts (r .cursor)
         (activitiesOf (take acts (r .resource)) (take acts (r .duration))) ⌝ }
 {
-    let mut last = state;
+    let mut last = cursor;
     let mut resource = [0u16; MOST_ACTS];
     let mut duration = [0u16; MOST_ACTS];
     for i in 0..acts {
         let act = read_activity(file, last, resources);
-        let next = act.state;
+        let next = act.cursor;
         last = next;
         resource[i] = act.resource;
         duration[i] = act.duration;
     }
     ActivityTable {
-        state: last,
+        cursor: last,
         resource,
         duration,
     }
@@ -380,91 +388,79 @@ fn is_node(acts: u32, letter: u32, number: u32) -> bool
     }
 }
 
-// The letter of a node as a byte: a node has no other letter.
-fn letter_byte(letter: u32) -> u8
-    ensures { λ r. ⌜ ((n : ℕ) → nodeOf r n ≡ nodeOf letter n) ⌝ }
+fn read_node(file: &[u8], cursor: Cursor, acts: u32) -> NodeLine
+    requires { ⌜ (cursor .line < 1000) × (acts ≤ mostActs) ⌝ }
+    ensures { λ r. ⌜ Reads (now (file .entry)) cursor (aNode acts) 1 (r .cursor) (nodeOf (r .letter) (r .number)) ⌝ }
 {
-    match letter {
-        97 => b'a',
-        115 => b's',
-        112 => b'p',
-        _ => b'x',
-    }
-}
-
-fn read_node(file: &[u8], state: State, acts: u32) -> NodeLine
-    requires { ⌜ (state .line < 1000) × (acts ≤ mostActs) ⌝ }
-    ensures { λ r. ⌜ Reads (now (file .entry)) state (aNode acts) 1 (r .state) (nodeOf (r .letter) (r .number)) ⌝ }
-{
-    let at = state.at;
-    let line = read_line(file, at, b"node=@,#\n");
-    let letter = letter_byte(line.first);
+    let at = cursor.at;
+    let line = read_line(file, at, &plan::NODE_FORM);
+    let letter = plan::letter_of(line.first);
     let number = line.second;
     let fits = is_node(acts, line.first, number);
-    let next = judged(file, state, line, fits);
+    let next = take_line(file, cursor, line, fits);
     if fits {
         NodeLine {
-            state: next,
+            cursor: next,
             letter,
             number: number as u8,
         }
     } else {
         NodeLine {
-            state: next,
+            cursor: next,
             letter,
             number: 0,
         }
     }
 }
 
-fn read_nodes(file: &[u8], state: State, acts: u32, nodes: usize) -> NodeTable
-    requires { ⌜ (state .line < 100) × (acts ≤ mostActs) × (nodes ≤ mostNodes) ⌝ }
+fn read_nodes(file: &[u8], cursor: Cursor, acts: u32, nodes: usize) -> NodeTable
+    requires { ⌜ (cursor .line < 100) × (acts ≤ mostActs) × (nodes ≤ mostNodes) ⌝ }
     ensures { λ r.
-        ⌜ Reads (now (file .entry)) state (theLines nodes (aNode acts)) nodes (r .state)
+        ⌜ Reads (now (file .entry)) cursor (theLines nodes (aNode acts)) nodes (r .cursor)
         (nodesOf (take nodes (r .letter)) (take nodes (r .number))) ⌝ }
 {
-    let mut last = state;
+    let mut last = cursor;
     let mut letter = [0u8; MOST_NODES];
     let mut number = [0u8; MOST_NODES];
     for i in 0..nodes {
         let node = read_node(file, last, acts);
-        let next = node.state;
+        let next = node.cursor;
         last = next;
         letter[i] = node.letter;
         number[i] = node.number;
     }
     NodeTable {
-        state: last,
+        cursor: last,
         letter,
         number,
     }
 }
 
 // Nothing may follow the last line.
-fn read_end(file: &[u8], state: State) -> State
-    ensures { λ r. ⌜ Reads (now (file .entry)) state theEnd 0 r tt ⌝ }
+fn read_end(file: &[u8], cursor: Cursor) -> Cursor
+    ensures { λ r. ⌜ Reads (now (file .entry)) cursor theEnd 0 r tt ⌝ }
 {
-    if state.at < file.len() {
-        State {
+    if cursor.at < file.len() {
+        Cursor {
             at: nowhere(file),
-            line: state.line,
+            line: cursor.line,
             range: false,
         }
     } else {
-        state
+        cursor
     }
 }
 
-fn verdict_of(file: &[u8], state: State) -> Verdict
-    ensures { λ r. ⌜ r ≡ verdictOf (outcome (now (file .entry)) state (tt {0})) ⌝ }
+fn verdict_of(file: &[u8], cursor: Cursor) -> Verdict
+    ensures { λ r. ⌜ r ≡ verdictOf (outcome (now (file .entry)) cursor (tt {0})) ⌝ }
 {
-    if state.at <= file.len() {
+    if cursor.at <= file.len() {
         return Verdict::Accepted;
     }
-    if state.range {
-        Verdict::Refused(Refusal::Range(state.line))
+    if cursor.range {
+        Verdict::Refused(Refusal::Range(cursor.line))
     } else {
-        Verdict::Refused(Refusal::Form(state.line))
+        Verdict::Refused(Refusal::Form(cursor.line))
     }
 }
 
@@ -472,20 +468,20 @@ fn read_plan(file: &[u8]) -> Parsed
     requires { ⌜ (0 < length (now file)) × (length (now file) ≤ longest) ⌝ }
     ensures { λ r. ⌜ Answers (now (file .entry)) r ⌝ }
 {
-    let start = State {
+    let start = Cursor {
         at: 0,
         line: 1,
         range: false,
     };
-    let edition = read_count(file, start, b"plan=#\n", 1, 1);
-    let resources = read_count(file, edition.state, b"res=#\n", 1, RESOURCES);
-    let acts = read_count(file, resources.state, b"acts=#\n", 1, ACTS);
+    let edition = read_count(file, start, &plan::EDITION_FORM, 1, 1);
+    let resources = read_count(file, edition.cursor, &plan::RESOURCES_FORM, 1, RESOURCES);
+    let acts = read_count(file, resources.cursor, &plan::ACTS_FORM, 1, ACTS);
     let count = acts.value as usize;
-    let table = read_activities(file, acts.state, resources.value, count);
-    let nodes = read_count(file, table.state, b"nodes=#\n", 1, NODES);
+    let table = read_activities(file, acts.cursor, resources.value, count);
+    let nodes = read_count(file, table.cursor, &plan::NODES_FORM, 1, NODES);
     let size = nodes.value as usize;
-    let tree = read_nodes(file, nodes.state, acts.value, size);
-    let last = read_end(file, tree.state);
+    let tree = read_nodes(file, nodes.cursor, acts.value, size);
+    let last = read_end(file, tree.cursor);
     let resource = table.resource;
     let duration = table.duration;
     let letter = tree.letter;

@@ -1,5 +1,5 @@
-// Plan files by the definitions alone: the lines one by one, the refusals that rest on the file, and the variants in the order
-// of their numbers. It shares no code with the planner.
+// Plan files by the definitions alone: the lines one by one, the refusals that rest on the file, and the variants in
+// the order of their numbers. It shares no code with the planner.
 mod line;
 mod picks;
 mod tables;

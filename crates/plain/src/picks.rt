@@ -1,5 +1,5 @@
-// The variants of a plan in the order of their numbers. The picks are the digits of an odometer over the x nodes in prefix
-// order, the last turning fastest; an x that does not remain keeps the digit 0.
+// The variants of a plan in the order of their numbers. The picks are the digits of an odometer over the x nodes in
+// prefix order, the last turning fastest; an x that does not remain keeps the digit 0.
 use crate::ACTS;
 use crate::NODES;
 use crate::tables::NONE;
@@ -18,8 +18,8 @@ pub fn first() -> Picks {
     }
 }
 
-// The nodes that remain, the node and the duration of each activity (NONE and 0 where absent), one more than the sum of the
-// durations, and whether an activity stands there twice.
+// The nodes that remain, the node and the duration of each activity (NONE and 0 where absent), one more than the sum
+// of the durations, and whether an activity stands there twice.
 pub struct Variant {
     pub remains: [bool; NODES],
     pub node: [usize; ACTS],

@@ -1,5 +1,5 @@
-// The tables of a plan, made of its lines one by one. Nodes come in prefix order, so each is a child of the last group that
-// still wants children.
+// The tables of a plan, made of its lines one by one. Nodes come in prefix order, so each is a child of the last
+// group that still wants children.
 use crate::ACTS;
 use crate::NODES;
 use crate::text::Text;
@@ -10,7 +10,7 @@ pub const NONE: usize = NODES;
 pub struct Plan {
     ok: bool,
     pub acts: usize,
-    pub device: [u16; ACTS],
+    pub resource: [u16; ACTS],
     pub duration: [u16; ACTS],
     pub nodes: usize,
     pub letter: [u8; NODES],
@@ -25,7 +25,7 @@ fn empty() -> Plan {
     Plan {
         ok: true,
         acts: 0,
-        device: [0; ACTS],
+        resource: [0; ACTS],
         duration: [0; ACTS],
         nodes: 0,
         letter: [0; NODES],
@@ -42,13 +42,13 @@ fn refused(p: Plan) -> Plan {
     q
 }
 
-fn with_act(p: Plan, device: u16, duration: u16) -> Plan {
+fn with_act(p: Plan, resource: u16, duration: u16) -> Plan {
     let at = p.acts;
     if ACTS <= at {
         return refused(p);
     }
     let mut q = p;
-    q.device[at] = device;
+    q.resource[at] = resource;
     q.duration[at] = duration;
     q.acts = at + 1;
     q

@@ -6,18 +6,19 @@ use crate::line::Line;
 
 const BYTES: usize = 959;
 
-const DEVICES: u16 = 16;
+const RESOURCES: usize = 16;
 
 // One more than the lines of the longest plan.
 const LINES: u64 = (5 + ACTS + NODES) as u64;
 
-// The number and the figure of the refusal, 0 where there is none; the place of the next line; how many devices, activities
-// and nodes there are; and the places of the first activity's line and the first node's.
+// The number and the figure of the refusal, 0 where there is none; the place of the next line; the latest count; how
+// many resources, activities and nodes there are; and the places of the first activity's line and the first node's.
 pub struct Text {
     pub number: u64,
     pub figure: u64,
     at: usize,
-    devices: u16,
+    count: u16,
+    resources: u16,
     pub acts: u16,
     pub nodes: u16,
     pub acts_at: usize,
@@ -49,32 +50,37 @@ fn with_edition(file: &[u8], t: Text, line: u64) -> Text {
     with_line(t, l, l.right == 1, line)
 }
 
-fn with_devices(file: &[u8], t: Text, line: u64) -> Text {
-    let l = crate::line::single(file, t.at, b"res=");
-    let mut u = with_line(t, l, (0 < l.right) & (l.right <= DEVICES), line);
-    u.devices = l.right;
+// A line of one count, from 1 to the most there may be.
+fn with_count(file: &[u8], t: Text, key: &[u8], most: usize, line: u64) -> Text {
+    let l = crate::line::single(file, t.at, key);
+    let mut u = with_line(t, l, (0 < l.right) & (l.right as usize <= most), line);
+    u.count = l.right;
+    u
+}
+
+fn with_resources(file: &[u8], t: Text, line: u64) -> Text {
+    let mut u = with_count(file, t, b"res=", RESOURCES, line);
+    u.resources = u.count;
     u
 }
 
 fn with_acts(file: &[u8], t: Text, line: u64) -> Text {
-    let l = crate::line::single(file, t.at, b"acts=");
-    let mut u = with_line(t, l, (0 < l.right) & (l.right <= ACTS as u16), line);
-    u.acts = l.right;
-    u.acts_at = l.at;
+    let mut u = with_count(file, t, b"acts=", ACTS, line);
+    u.acts = u.count;
+    u.acts_at = u.at;
     u
 }
 
 fn with_act(file: &[u8], t: Text, line: u64) -> Text {
     let l = crate::line::activity(file, t.at);
-    let fits = (l.left < t.devices) & (0 < l.right) & (l.right <= LONGEST);
+    let fits = (l.left < t.resources) & (0 < l.right) & (l.right <= LONGEST);
     with_line(t, l, fits, line)
 }
 
 fn with_nodes(file: &[u8], t: Text, line: u64) -> Text {
-    let l = crate::line::single(file, t.at, b"nodes=");
-    let mut u = with_line(t, l, (0 < l.right) & (l.right <= NODES as u16), line);
-    u.nodes = l.right;
-    u.nodes_at = l.at;
+    let mut u = with_count(file, t, b"nodes=", NODES, line);
+    u.nodes = u.count;
+    u.nodes_at = u.at;
     u
 }
 
@@ -122,7 +128,7 @@ fn step(file: &[u8], t: Text, line: u64) -> Text {
         return with_edition(file, t, line);
     }
     if line == 2 {
-        return with_devices(file, t, line);
+        return with_resources(file, t, line);
     }
     if line == 3 {
         return with_acts(file, t, line);
@@ -135,7 +141,8 @@ pub fn read(file: &[u8]) -> Text {
         number: 0,
         figure: 0,
         at: 0,
-        devices: 0,
+        count: 0,
+        resources: 0,
         acts: 0,
         nodes: 0,
         acts_at: 0,

@@ -1,9 +1,10 @@
-// READ by the definitions: the numbers of activities, nodes and variants, or the refusal that rests on the file alone.
+// READ by the definitions: the numbers of activities, nodes and variants, or the refusal that rests on the file
+// alone.
 use crate::VARIANTS;
 use crate::tables::Plan;
 
-// Number 0 stands for no refusal. Where the variants are too many to look at, and none of those looked at has an activity
-// twice, it is not known which refusal it is.
+// Number 0 stands for no refusal. Where the variants are too many to look at, and none of those looked at has an
+// activity twice, it is not known which refusal it is.
 pub struct Judged {
     pub known: bool,
     pub number: u64,

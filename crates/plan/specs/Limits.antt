@@ -1,10 +1,10 @@
 -- The limits and the line forms of the plan file, in the edition in force. A later edition changes this file.
-use Prim.Native.Nat.{ℕ, _*_}
-use Prim.Native.Char.{Char, code}
+use Prim.Native.Nat.{ℕ, _*_, _^_}
+use Prim.Native.Char.{code}
 use Prim.Native.String.{String}
 use mathlib.Core.Bool.{Bool, _&&_}
 use mathlib.Core.List.{List, [], _∷_}
-use lib.Dec.{leb, ltb, eqb}
+use lib.Dec.{leb, eqb}
 
 -- The bytes of a quoted text.
 abbrev pub bytes : String → List ℕ
@@ -29,6 +29,10 @@ mostVariants = 4096
 abbrev pub mostResources : ℕ
 mostResources = 16
 
+-- A number and a resource as one number: so many times the number, plus the resource.
+abbrev pub packing : ℕ
+packing = mostResources
+
 abbrev pub mostActs : ℕ
 mostActs = 24
 
@@ -39,6 +43,13 @@ longestDuration = 2000
 -- No active session ends later.
 abbrev pub latestPossible : ℕ
 latestPossible = mostActs * longestDuration
+
+-- A start and a cell of LIST are numbers below this, and a word is one below that.
+abbrev pub cellValues : ℕ
+cellValues = 2 ^ 16
+
+abbrev pub wordValues : ℕ
+wordValues = 2 ^ 32
 
 abbrev pub mostNodes : ℕ
 mostNodes = 64

@@ -3,9 +3,11 @@ use Prim.Native.Nat.{ℕ}
 use mathlib.Core.Bool.{Bool, true, false, _&&_, _||_}
 use mathlib.Core.List.{List, [], _∷_}
 use mathlib.Core.Path.{_≡_}
-use lib.Dec.{leb, ltb, eqb}
+use lib.Dec.{ltb, eqb}
 use lib.ListN.{length, take, replicate}
-use Rattle.plan.specs.Limits.{mostActs, mostNodes, isResourceCount, isActCount, isDuration, isNodeCount, isChildCount}
+use Rattle.base.specs.Lists.{every}
+use Rattle.plan.specs.Limits.{mostActs, mostNodes, isResourceCount, isActCount, isDuration, isNodeCount}
+use Rattle.plan.specs.Limits.{isChildCount}
 use Rattle.plan.specs.declared.Tables.{Tables}
 
 -- `act=r,d`
@@ -56,13 +58,10 @@ isNode acts (seq k) = isChildCount k
 isNode acts (pll k) = isChildCount k
 isNode acts (xor k) = isChildCount k
 
-abbrev pub every {ℓ} : {A : Type ℓ} → (A → Bool) → List A → Bool
-every f [] = true
-every f (x ∷ xs) = f x && every f xs
-
 abbrev pub isPlan : Plan → Bool
 isPlan p =
-    isResourceCount (p .resources) && isActCount (length (p .activities)) && every (isActivity (p .resources)) (p .activities)
+    isResourceCount (p .resources)
+    && isActCount (length (p .activities)) && every (isActivity (p .resources)) (p .activities)
     && isNodeCount (length (p .nodes)) && every (isNode (length (p .activities))) (p .nodes)
 
 -- The plan that the program's tables hold.
@@ -76,12 +75,16 @@ nodesOf [] ns = []
 nodesOf (b ∷ bs) [] = []
 nodesOf (b ∷ bs) (n ∷ ns) = nodeOf b n ∷ nodesOf bs ns
 
+-- The nodes of the first n entries of a table of letters and one of numbers.
+abbrev pub nodesIn : ℕ → List ℕ → List ℕ → List Node
+nodesIn n letter number = nodesOf (take n letter) (take n number)
+
 abbrev pub planOf : Tables → Plan
 planOf t =
     record {
       resources = t .resources;
       activities = activitiesOf (take (t .acts) (t .resource)) (take (t .acts) (t .duration));
-      nodes = nodesOf (take (t .nodes) (t .letter)) (take (t .nodes) (t .number));
+      nodes = nodesIn (t .nodes) (t .letter) (t .number);
     }
 
 -- The tables of no plan: every count and every entry 0.

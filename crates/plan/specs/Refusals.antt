@@ -1,7 +1,8 @@
 -- The paper's table "Turned back": the number and the figure of each refusal.
 use Prim.Native.Nat.{ℕ}
 use Rattle.plan.specs.declared.Refusal.{Refusal}
-use Rattle.plan.specs.declared.Refusal.the-variants.{Length, Form, Range, NotOneTerm, Twice, TooManyVariants, NoSuchVariant, OverCap, AreaTooShort}
+use Rattle.plan.specs.declared.Refusal.the-variants.{Length, Form, Range, NotOneTerm, Twice, TooManyVariants}
+use Rattle.plan.specs.declared.Refusal.the-variants.{NoSuchVariant, OverCap, AreaTooShort}
 
 abbrev pub numberOf : Refusal → ℕ
 numberOf Length = 1

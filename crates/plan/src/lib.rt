@@ -1,7 +1,8 @@
 // A plan as the program keeps it, and the refusals of every call.
+ghost use Prim.Native.Nat.{ℕ};
 ghost use mathlib.Core.Path.{_≡_};
 ghost use Rattle.plan.specs.Refusals.{numberOf, figureOf};
-ghost use Rattle.plan.specs.Plan.{noTables};
+ghost use Rattle.plan.specs.Plan.{letterOf, nodeOf, noTables};
 
 // The limits of the plan file, as in `specs/Limits.antt`, each in the type of what it bounds.
 pub const MOST_RESOURCES: u16 = 16;
@@ -17,6 +18,19 @@ pub const MOST_CHILDREN: u8 = 63;
 pub const LONGEST: usize = 959;
 
 pub const MOST_VARIANTS: u32 = 4096;
+
+// The form of each kind of line: `#` stands for a value and `@` for a node's letter.
+pub const EDITION_FORM: [u8; 7] = *b"plan=#\n";
+
+pub const RESOURCES_FORM: [u8; 6] = *b"res=#\n";
+
+pub const ACTS_FORM: [u8; 7] = *b"acts=#\n";
+
+pub const ACT_FORM: [u8; 8] = *b"act=#,#\n";
+
+pub const NODES_FORM: [u8; 8] = *b"nodes=#\n";
+
+pub const NODE_FORM: [u8; 9] = *b"node=@,#\n";
 
 // Why a call turns its input back. `numberOf` and `figureOf` give the paper's number and figure of each case.
 pub enum Refusal {
@@ -89,5 +103,17 @@ impl Tables {
             letter: [0; MOST_NODES],
             number: [0; MOST_NODES],
         }
+    }
+}
+
+// The letter of the node that a letter names: there is no other than these four.
+pub fn letter_of(letter: u32) -> u8
+    ensures { λ r. ⌜ ((n : ℕ) → r ≡ letterOf (nodeOf letter n)) ⌝ }
+{
+    match letter {
+        97 => b'a',
+        115 => b's',
+        112 => b'p',
+        _ => b'x',
     }
 }

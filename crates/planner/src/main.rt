@@ -6,25 +6,25 @@ use words::Command;
 use words::Request;
 
 fn put_written(file: &[u8], variant: u32) -> bool {
-    let mut area = [0u8; answers::BYTES];
-    answers::put_written(file, variant, &mut area)
+    let mut area = [0u8; printer::BYTES];
+    printer::put_written(file, variant, &mut area)
 }
 
 fn put_listed(file: &[u8], cap: u32) -> bool {
-    let mut area = [0u16; answers::CELLS];
-    answers::put_listed(file, cap, &mut area)
+    let mut area = [0u16; printer::CELLS];
+    printer::put_listed(file, cap, &mut area)
 }
 
 fn put_answer(request: Request, file: &[u8]) -> bool {
     let command = request.command;
     let timetable = request.timetable;
     match command {
-        Command::Read => answers::put_read(file),
+        Command::Read => printer::put_read(file),
         Command::Write => put_written(file, request.number),
-        Command::Check => answers::put_checked(file, request.number, timetable),
-        Command::Count => answers::put_counted(file, request.number),
+        Command::Check => printer::put_checked(file, request.number, timetable),
+        Command::Count => printer::put_counted(file, request.number),
         Command::List => put_listed(file, request.number),
-        Command::Best => answers::put_best(file, request.number),
+        Command::Best => printer::put_best(file, request.number),
         Command::Help | Command::Wrong => true,
     }
 }

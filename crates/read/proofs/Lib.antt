@@ -1,7 +1,3 @@
--- What is accepted, and READ as a walk of the term computes it.
-pub mod Accepts
+-- READ's answer, and READ as a walk of the term computes it.
 pub mod Model
-pub mod Ranges
-pub mod Judging
-pub mod Parsing
 pub mod Reading

@@ -1,5 +1,5 @@
--- READ as a walk of the term computes it: V by sums and products, and the rule for an activity that stands twice. It is
--- READ's definition, and what the worked campaigns are computed by.
+-- READ as a walk of the term computes it: V by sums and products, and the rule for an activity that stands twice. It
+-- is READ's definition, and what the worked campaigns are computed by.
 use Prim.Native.Nat.{ℕ}
 use mathlib.Core.Bool.{Bool, true, false}
 use mathlib.Core.List.{List}
@@ -17,11 +17,11 @@ use Rattle.format.proofs.Plans.{plan-sound}
 use Rattle.term.specs.Term.{Term, termOf}
 use Rattle.term.specs.Variants.{variantCount, twice}
 use Rattle.term.specs.Clash.{clash}
-use Rattle.term.proofs.Model.{count}
+use Rattle.term.specs.Model.{count}
 use Rattle.term.proofs.Reading.{full-termOf}
 use Rattle.term.proofs.Counting.{variantCount-count}
 use Rattle.term.proofs.Twice.{twice-clash}
-use Rattle.read.specs.Judge.{judge, judgeTerm, judgeVariants, judgeResult}
+use Rattle.judge.specs.Judge.{judge, judgeTerm, judgeVariants, judgeResult}
 use Rattle.read.specs.Answer.{answerTo, readOf}
 use Rattle.read.specs.declared.ReadAnswer.{ReadAnswer}
 use Rattle.read.specs.declared.ReadAnswer.the-variants.{Read, Refused}
@@ -42,12 +42,14 @@ readResult (Parse.refuses r) = Refused r
 unfoldable pub readBy : List ℕ → ReadAnswer
 readBy s = readResult (parse s)
 
-variants-same : (p : Plan) (t : Term) (a b : Bool) → variantCount t ≡ count t → answerTo (judgeVariants p t a b) ≡ readVariants p t a b
+variants-same : (p : Plan) (t : Term) (a b : Bool) → variantCount t ≡ count t
+    → answerTo (judgeVariants p t a b) ≡ readVariants p t a b
 variants-same p t true b e = refl
 variants-same p t false true e = refl
 variants-same p t false false e = ap (λ (n : ℕ). Read (length (p .activities)) (length (p .nodes)) n) e
 
-term-same : (p : Plan) (o : Option Term) → termOf (p .nodes) ≡ o → isPlan p ≡ true → answerTo (judgeTerm p o) ≡ readTerm p o
+term-same : (p : Plan) (o : Option Term) → termOf (p .nodes) ≡ o → isPlan p ≡ true
+    → answerTo (judgeTerm p o) ≡ readTerm p o
 term-same p none eo r = refl
 term-same p (some t) eo r =
     let n = variantCount-count t in

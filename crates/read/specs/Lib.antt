@@ -1,4 +1,2 @@
--- Which plan files are accepted, and what READ answers.
-pub mod Judge
-pub mod Valid
+-- What READ answers.
 pub mod Answer

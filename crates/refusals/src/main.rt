@@ -4,63 +4,63 @@ use timetable::Timetable;
 
 fn put_length() -> bool {
     put(b"case=empty_file call=read\n")
-        && answers::put_read(b"")
+        && printer::put_read(b"")
         && put(b"case=file_of_960_bytes call=read\n")
-        && answers::put_read(&[b'a'; console::FILE])
+        && printer::put_read(&[b'a'; console::FILE])
 }
 
 fn put_form() -> bool {
     put(b"case=leading_zero call=read\n")
-        && answers::put_read(&samples::leading_zero())
+        && printer::put_read(&samples::leading_zero())
         && put(b"case=node_absent call=read\n")
-        && answers::put_read(&samples::node_absent())
+        && printer::put_read(&samples::node_absent())
         && put(b"case=line_too_many call=read\n")
-        && answers::put_read(&samples::line_too_many())
+        && printer::put_read(&samples::line_too_many())
 }
 
 fn put_range() -> bool {
-    put(b"case=duration_2001 call=read\n") && answers::put_read(&samples::duration_2001())
+    put(b"case=duration_2001 call=read\n") && printer::put_read(&samples::duration_2001())
 }
 
 fn put_term() -> bool {
     put(b"case=child_absent call=read\n")
-        && answers::put_read(&samples::child_absent())
+        && printer::put_read(&samples::child_absent())
         && put(b"case=twice_under_p call=read\n")
-        && answers::put_read(&samples::twice_under_p())
+        && printer::put_read(&samples::twice_under_p())
         && put(b"case=twelve_choices_and_one call=read\n")
-        && answers::put_read(&samples::twelve_choices_and_one())
+        && printer::put_read(&samples::twelve_choices_and_one())
 }
 
 // The dot test has variants 0 and 1.
 fn put_variant() -> bool {
-    let mut area = [0u8; answers::BYTES];
+    let mut area = [0u8; printer::BYTES];
     put(b"case=variant_2 call=write\n")
-        && answers::put_written(&samples::dot_test(), 2, &mut area)
+        && printer::put_written(&samples::dot_test(), 2, &mut area)
         && put(b"case=variant_2 call=check\n")
-        && answers::put_checked(&samples::dot_test(), 2, Timetable::empty())
+        && printer::put_checked(&samples::dot_test(), 2, Timetable::empty())
 }
 
 // The dot test has three active sessions.
 fn put_cap() -> bool {
     let mut area = [0u16; 18];
     put(b"case=cap_2 call=count\n")
-        && answers::put_counted(&samples::dot_test(), 2)
+        && printer::put_counted(&samples::dot_test(), 2)
         && put(b"case=cap_2 call=list\n")
-        && answers::put_listed(&samples::dot_test(), 2, &mut area)
+        && printer::put_listed(&samples::dot_test(), 2, &mut area)
         && put(b"case=cap_2 call=best\n")
-        && answers::put_best(&samples::dot_test(), 2)
+        && printer::put_best(&samples::dot_test(), 2)
 }
 
 // The dot test's variant 0 takes 113 bytes.
 fn put_bytes() -> bool {
     let mut area = [0u8; 112];
-    put(b"case=112_bytes call=write\n") && answers::put_written(&samples::dot_test(), 0, &mut area)
+    put(b"case=112_bytes call=write\n") && printer::put_written(&samples::dot_test(), 0, &mut area)
 }
 
 fn put_cells() -> bool {
-    let mut area = [0u16; answers::CELLS];
+    let mut area = [0u16; printer::CELLS];
     put(b"case=eight_in_parallel call=list\n")
-        && answers::put_listed(&samples::eight_in_parallel(), 1000000, &mut area)
+        && printer::put_listed(&samples::eight_in_parallel(), 1000000, &mut area)
 }
 
 // As the program `best` prints them.

@@ -7,15 +7,15 @@ pub fn dot_test() -> [u8; 149] {
         nodes=9\nnode=s,2\nnode=x,2\nnode=a,0\nnode=p,2\nnode=a,1\nnode=a,2\nnode=p,2\nnode=a,3\nnode=a,4\n"
 }
 
-// p over two activities of duration 1 on device 0 and two on device 1.
+// p over two activities of duration 1 on resource 0 and two on resource 1.
 pub fn two_contested() -> [u8; 105] {
     *b"plan=1\nres=2\nacts=4\n\
         act=0,1\nact=0,1\nact=1,1\nact=1,1\n\
         nodes=5\nnode=p,4\nnode=a,0\nnode=a,1\nnode=a,2\nnode=a,3\n"
 }
 
-// A free device has to wait: the shortest session has makespan 22.
-pub fn free_device_waits() -> [u8; 116] {
+// A free resource has to wait: the shortest session has makespan 22.
+pub fn free_resource_waits() -> [u8; 116] {
     *b"plan=1\nres=2\nacts=4\n\
         act=0,10\nact=1,1\nact=0,1\nact=1,20\n\
         nodes=6\nnode=p,2\nnode=a,0\nnode=s,3\nnode=a,1\nnode=a,2\nnode=a,3\n"
@@ -104,7 +104,7 @@ pub fn child_absent() -> [u8; 54] {
         nodes=2\nnode=p,2\nnode=a,0\n"
 }
 
-// p over eight activities of duration 1 on one device: 40320 sessions.
+// p over eight activities of duration 1 on one resource: 40320 sessions.
 pub fn eight_in_parallel() -> [u8; 173] {
     *b"plan=1\nres=1\nacts=8\n\
         act=0,1\nact=0,1\nact=0,1\nact=0,1\nact=0,1\nact=0,1\nact=0,1\nact=0,1\n\

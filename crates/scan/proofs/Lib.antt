@@ -1,3 +1,2 @@
--- The model of the search.
-pub mod Model
+-- Laws of the search's model.
 pub mod Forced

@@ -1,5 +1,5 @@
--- Two schedules that agree on the project's activities have the same load, latest end and makespan, and are feasible or
--- active alike. A schedule of a project is one of any part of it.
+-- Two schedules that agree on the project's activities have the same load, latest end and makespan, and are feasible
+-- or active alike. A schedule of a project is one of any part of it.
 use Prim.Native.Nat.{ℕ, zero, suc, _-_, _≤_, _<_, min}
 use native.Mathlib.Nat.{le-antisymm}
 use native.Mathlib.Decide.{ℕ-discrete}
@@ -9,9 +9,9 @@ use mathlib.Core.Path.{_≡_, sym, _∙_, ap₂}
 use mathlib.Core.Logic.{by-cases}
 use Rattle.schedule.specs.Project.{Project}
 use Rattle.schedule.specs.Schedule.{Starts, load, latestEnd, feasible, moved, active, earliestStart, makespan}
-use Rattle.bools.proofs.Bools.{by-bool, same-bool}
+use Rattle.base.proofs.Bools.{by-bool}
 use Rattle.schedule.proofs.Load.{Has, among, load-mono, latest-mono, moved-same, moved-other}
-use Rattle.schedule.proofs.Reflect.{Feasible, Active, feasible-is, feasible-of, active-is, active-of}
+use Rattle.schedule.proofs.Reflect.{Feasible, Active}
 
 abbrev pub Agree : Project → Starts → Starts → Type 0
 Agree p S S′ = (i : ℕ) → Has p i → S i ≡ S′ i
@@ -63,26 +63,12 @@ Active-agree p S S′ a v =
       is-feasible = Feasible-agree p S S′ a (v .is-feasible);
       least =
           λ j h y t l f.
-          v .least j h y t (omega (arith, a j h)) (Feasible-agree p (moved S′ j t) (moved S j t) (agree-moved p S′ S j t (agree-sym p S S′ a)) f);
+          v .least j h y t (omega (arith, a j h))
+          (Feasible-agree p (moved S′ j t) (moved S j t) (agree-moved p S′ S j t (agree-sym p S S′ a)) f);
     }
 
-pub feasible-agree : (p : Project) (S S′ : Starts) → Agree p S S′ → feasible p S ≡ feasible p S′
-feasible-agree p S S′ a =
-    same-bool
-    (feasible p S)
-    (feasible p S′)
-    (λ e. feasible-of p S′ (Feasible-agree p S S′ a (feasible-is p S e)))
-    (λ e. feasible-of p S (Feasible-agree p S′ S (agree-sym p S S′ a) (feasible-is p S′ e)))
-
-pub active-agree : (p : Project) (S S′ : Starts) → Agree p S S′ → active p S ≡ active p S′
-active-agree p S S′ a =
-    same-bool
-    (active p S)
-    (active p S′)
-    (λ e. active-of p S′ (Active-agree p S S′ a (active-is p S e)))
-    (λ e. active-of p S (Active-agree p S′ S (agree-sym p S S′ a) (active-is p S′ e)))
-
-earliest-agree : (p : Project) (S S′ : Starts) (n : ℕ) → n ≤ p .size → Agree p S S′ → earliestStart p S n ≡ earliestStart p S′ n
+earliest-agree : (p : Project) (S S′ : Starts) (n : ℕ) → n ≤ p .size → Agree p S S′
+    → earliestStart p S n ≡ earliestStart p S′ n
 unfolding earliestStart
 earliest-agree p S S′ zero l a = latest-agree p S S′ a
 earliest-agree p S S′ (suc n) l a =
@@ -98,17 +84,6 @@ makespan-agree p S S′ a = ap₂ _-_ (latest-agree p S S′ a) (earliest-agree 
 
 -- A part of a project.
 
-pub part-has : (p : Project) (F : ℕ → Bool) → ((i : ℕ) → i < p .size → F i ≡ true → p .present i ≡ true) → (i : ℕ) → Has (among p F) i → Has p i
+pub part-has : (p : Project) (F : ℕ → Bool) → ((i : ℕ) → i < p .size → F i ≡ true → p .present i ≡ true) → (i : ℕ)
+    → Has (among p F) i → Has p i
 part-has p F w i h = record { below = h .below; there = w i (h .below) (h .there) }
-
-pub part-load : (p : Project) (F : ℕ → Bool) (S : Starts) (t r : ℕ) → ((i : ℕ) → i < p .size → F i ≡ true → p .present i ≡ true) → load (among p F) S t r ≤ load p S t r
-part-load p F S t r w = load-mono p F (p .present) S S t t r (λ i l u y k. (w i l y, k))
-
-pub part-feasible : (p : Project) (F : ℕ → Bool) (S : Starts) → ((i : ℕ) → i < p .size → F i ≡ true → p .present i ≡ true) → Feasible p S → Feasible (among p F) S
-part-feasible p F S w f =
-    record {
-      from-floor = λ i h y. f .from-floor i (part-has p F w i h) y;
-      as-begun = λ i h z. f .as-begun i (part-has p F w i h) z;
-      ordered = λ i j hi hj o. f .ordered i j (part-has p F w i hi) (part-has p F w j hj) o;
-      fits = λ t r l. omega (arith, part-load p F S t r w, f .fits t r l);
-    }

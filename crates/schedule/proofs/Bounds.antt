@@ -1,5 +1,5 @@
--- Where an active schedule can stand. A free activity that does not start at the floor starts where another ends, or a
--- gap after one that precedes it; so every activity ends by the horizon.
+-- Where an active schedule can stand. A free activity that does not start at the floor starts where another ends, or
+-- a gap after one that precedes it; so every activity ends by the horizon.
 use Prim.Native.Nat.{ℕ, zero, suc, _+_, _-_, _≤_, _<_, zero-le}
 use native.Mathlib.Decide.{decLe}
 use native.Mathlib.Nat.{not-suc-le-zero}
@@ -9,22 +9,24 @@ use mathlib.Core.Path.{_≡_, sym, _∙_, ap}
 use mathlib.Core.Logic.{by-cases}
 use lib.Dec.{leb, ltb}
 use borrow.Author.Tests.{ltb-true, lt-ltb, leb-true, leb-false}
-use Rattle.schedule.specs.Below.{everyBelow, sumBelow, _implies_}
+use Rattle.base.specs.Below.{everyBelow, sumBelow, _implies_}
 use Rattle.schedule.specs.Project.{Project}
 pub use Rattle.schedule.specs.Bounds.{work}
 use Rattle.schedule.specs.Schedule.{Starts, endOf, load, latestEnd}
 use Rattle.schedule.specs.Sessions.{wait, horizon}
-use Rattle.bools.proofs.Bools.{by-bool, both, and-left, and-right, cond-true, cond-false}
-use Rattle.schedule.proofs.Below.{implies-elim, implies-fails, cond-mono, every-at, every-fails, sum-le, sum-le-but, max-term, max-least, sum-eq}
+use Rattle.base.proofs.Bools.{by-bool, both, and-left, and-right, cond-true, cond-false}
+use Rattle.base.proofs.Below.{implies-elim, implies-fails, cond-mono, every-at, every-fails, sum-le, sum-le-but}
+use Rattle.base.proofs.Below.{max-term, max-least, sum-eq}
 use Rattle.schedule.proofs.Load.{Has, Sound, Unfixed, load-some, ends-least}
 use Rattle.schedule.proofs.Reflect.{Active}
 use Rattle.schedule.proofs.Moves.{Earlier, move-earlier, own-fits}
 
 -- What holds i at its start: the floor, the end of k that runs until then, or k that precedes i with the gap between.
-pub data Held (p : Project) (S : Starts) (i : ℕ) : Type 0 where
-  by-floor : S i ≤ p .floor → Held p S i
-  by-resource : (k : ℕ) → Has p k → S k < S i → S i ≤ endOf p S k → Held p S i
-  by-order : (k : ℕ) → Has p k → p .precedes k i ≡ true → S k < S i → S i ≤ endOf p S k + p .gap k i → Held p S i
+pub data WithinTicks (p : Project) (S : Starts) (i : ℕ) : Type 0 where
+  by-floor : S i ≤ p .floor → WithinTicks p S i
+  by-resource : (k : ℕ) → Has p k → S k < S i → S i ≤ endOf p S k → WithinTicks p S i
+  by-order : (k : ℕ) → Has p k → p .precedes k i ≡ true → S k < S i → S i ≤ endOf p S k + p .gap k i
+      → WithinTicks p S i
 
 before-test : Project → Starts → ℕ → ℕ → ℕ → Bool
 before-test p S i t k = (p .present k && p .precedes k i) implies leb (endOf p S k + p .gap k i) t
@@ -32,8 +34,9 @@ before-test p S i t k = (p .present k && p .precedes k i) implies leb (endOf p S
 room-test : Project → Starts → ℕ → ℕ → ℕ → Bool
 room-test p S i t r = leb (load p S t r + p .units i r) (p .capacity r)
 
-module _ (p : Project) (S : Starts) (sound : Sound p) (a : Active p S) (i : ℕ) (h : Has p i) (y : p .free i ≡ true) (t : ℕ) (e : suc t ≡ S i) where
-  early : everyBelow (p .size) (before-test p S i t) ≡ false → Held p S i
+module _ (p : Project) (S : Starts) (sound : Sound p) (a : Active p S) (i : ℕ) (h : Has p i) (y : p .free i ≡ true)
+    (t : ℕ) (e : suc t ≡ S i) where
+  early : everyBelow (p .size) (before-test p S i t) ≡ false → WithinTicks p S i
   unfolding before-test
   early z =
       let (k, l, x) = every-fails (p .size) (before-test p S i t) z in
@@ -43,16 +46,17 @@ module _ (p : Project) (S : Starts) (sound : Sound p) (a : Active p S) (i : ℕ)
       let past : t < endOf p S k + p .gap k i = leb-false (endOf p S k + p .gap k i) t late in
       by-order k hk o (omega (arith, a .is-feasible .ordered k i hk h o, sound .lasts k hk)) (omega arith)
 
-  short : everyBelow (p .resources) (room-test p S i t) ≡ false → Held p S i
+  short : everyBelow (p .resources) (room-test p S i t) ≡ false → WithinTicks p S i
   unfolding room-test
   short z =
       let (r, l, x) = every-fails (p .resources) (room-test p S i t) z in
-      let over : p .capacity r < load p S t r + p .units i r = leb-false (load p S t r + p .units i r) (p .capacity r) x in
+      let over : p .capacity r < load p S t r + p .units i r =
+      leb-false (load p S t r + p .units i r) (p .capacity r) x in
       let (k, hk, run) = load-some p S t r (omega (arith, own-fits p S sound (a .is-feasible) i r h l)) in
       by-resource k hk (omega arith) (omega arith)
 
   -- One tick sooner it would be early for one that precedes it, or lack units.
-  held-at : p .floor ≤ t → Held p S i
+  held-at : p .floor ≤ t → WithinTicks p S i
   unfolding before-test room-test
   held-at low =
       by-bool
@@ -78,14 +82,17 @@ module _ (p : Project) (S : Starts) (sound : Sound p) (a : Active p S) (i : ℕ)
         room =
             λ u r l b c d.
             let q : u ≡ t = omega arith in
-            rw q (leb-true (load p S t r + p .units i r) (p .capacity r) (every-at (p .resources) (room-test p S i t) all-room r l));
+            rw q
+            (leb-true (load p S t r + p .units i r) (p .capacity r)
+            (every-at (p .resources) (room-test p S i t) all-room r l));
       }
       in
       absurd (a .least i h y t (omega arith) (move-earlier p S i t h sooner (a .is-feasible) y)))
       short)
       early
 
-pub held : (p : Project) (S : Starts) → Sound p → Active p S → (i : ℕ) → Has p i → p .free i ≡ true → Held p S i
+pub held : (p : Project) (S : Starts) → Sound p → Active p S → (i : ℕ) → Has p i → p .free i ≡ true
+    → WithinTicks p S i
 held p S sound a i h y =
     by-cases
     (decLe (S i) (p .floor))
@@ -106,7 +113,8 @@ before : Project → Starts → ℕ → ℕ
 before p S t = sumBelow (p .size) (before-term p S t)
 
 -- One that starts at t or later comes on top of those before t.
-before-next : (p : Project) (S : Starts) (t k : ℕ) → Has p k → t ≤ S k → before p S t + adds p k ≤ before p S (suc (S k))
+before-next : (p : Project) (S : Starts) (t k : ℕ) → Has p k → t ≤ S k
+    → before p S t + adds p k ≤ before p S (suc (S k))
 unfolding before before-term
 before-next p S t k h l =
     let absent : before-term p S t k ≡ 0 =
@@ -149,7 +157,8 @@ before-all p S t =
           (p .size)
           (before-term p S t)
           (λ i. cond (p .present i) (adds p i) 0)
-          (λ i l. cond-mono (p .present i && ltb (S i) t) (p .present i) (adds p i) (and-left (p .present i) (ltb (S i) t))),
+          (λ i l.
+          cond-mono (p .present i && ltb (S i) t) (p .present i) (adds p i) (and-left (p .present i) (ltb (S i) t))),
     )
 
 wait-of : (p : Project) (k i : ℕ) → Has p k → p .precedes k i ≡ true → p .gap k i ≤ wait p i
@@ -170,7 +179,8 @@ module _ (p : Project) (S : Starts) (sound : Sound p) (a : Active p S) where
       omega
       (arith, before-next p S 0 i h zero-le, a .is-feasible .as-begun i h z, cond-false {A = ℕ} 0 (p .begun i) z))
     where
-      go : ((k : ℕ) → Has p k → S k < S i → endOf p S k ≤ p .floor + before p S (suc (S k))) → Held p S i → endOf p S i ≤ p .floor + before p S (suc (S i))
+      go : ((k : ℕ) → Has p k → S k < S i → endOf p S k ≤ p .floor + before p S (suc (S k))) → WithinTicks p S i
+          → endOf p S i ≤ p .floor + before p S (suc (S i))
       go ih (by-floor b) = omega (arith, before-next p S 0 i h zero-le)
       go ih (by-resource k hk b c) = omega (arith, ih k hk b, before-next p S (suc (S k)) i h b)
       go ih (by-order k hk o b c) = omega (arith, ih k hk b, before-next p S (suc (S k)) i h b, wait-of p k i hk o)
@@ -203,7 +213,8 @@ no-wait p none j h =
           omega (
             arith,
             cond-true (p .gap i j) 0 y,
-            none i j (record { below = l; there = and-left (p .present i) (p .precedes i j) y }) h (and-right (p .present i) (p .precedes i j) y),
+            none i j (record { below = l; there = and-left (p .present i) (p .precedes i j) y }) h
+                (and-right (p .present i) (p .precedes i j) y),
           ))
           (λ z. omega (arith, cond-false (p .gap i j) 0 z))),
     )
@@ -232,5 +243,6 @@ plain-horizon p unfixed none =
     ))
     (λ z. cond-false (adds p i) 0 z ∙ sym (cond-false (p .duration i) 0 z))))
 
-pub latest-by-work : (p : Project) (S : Starts) → Sound p → Unfixed p → NoGaps p → Active p S → latestEnd p S ≤ p .floor + work p
+pub latest-by-work : (p : Project) (S : Starts) → Sound p → Unfixed p → NoGaps p → Active p S
+    → latestEnd p S ≤ p .floor + work p
 latest-by-work p S sound unfixed none a = omega (arith, plain-horizon p unfixed none, latest-by-horizon p S sound a)

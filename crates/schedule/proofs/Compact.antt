@@ -6,12 +6,13 @@ use native.Mathlib.Nat.{not-suc-le-zero}
 use native.Mathlib.Omega.{arith}
 use mathlib.Core.Path.{_≡_}
 use mathlib.Core.Logic.{by-cases}
-use Rattle.schedule.specs.Below.{sumBelow}
+use Rattle.base.specs.Below.{sumBelow}
 use Rattle.schedule.specs.Project.{Project}
 use Rattle.schedule.specs.Schedule.{Starts, load, latestEnd, moved, active, makespan}
-use Rattle.bools.proofs.Bools.{by-bool, true-not-false}
-use Rattle.schedule.proofs.Below.{sum-le-but}
-use Rattle.schedule.proofs.Load.{Has, Sound, Unfixed, load-mono, load-some, end-le, ends-least, latest-mono, moved-same}
+use Rattle.base.proofs.Bools.{by-bool, true-not-false}
+use Rattle.base.proofs.Below.{sum-le-but}
+use Rattle.schedule.proofs.Load.{Has, Sound, Unfixed, load-mono, load-some, end-le, ends-least, latest-mono}
+use Rattle.schedule.proofs.Load.{moved-same}
 use Rattle.schedule.proofs.Reflect.{Feasible, Active, Sooner, active-is, not-active}
 use Rattle.schedule.proofs.Moves.{moved-le, Earlier, move-earlier, own-fits}
 use Rattle.schedule.proofs.Makespan.{earliest, earliest-le, makespan-is, Opening, opens, empty, opening}
@@ -22,11 +23,14 @@ pub record Compacted (p : Project) (S : Starts) : Type 0 where
   pub is-active : Active p into
   pub lower : (i : ℕ) → into i ≤ S i
 
-starts-fall : (p : Project) (S : Starts) (j t : ℕ) → Has p j → t < S j → sumBelow (p .size) (moved S j t) < sumBelow (p .size) S
+starts-fall : (p : Project) (S : Starts) (j t : ℕ) → Has p j → t < S j
+    → sumBelow (p .size) (moved S j t) < sumBelow (p .size) S
 starts-fall p S j t h l =
     let at : moved S j t j ≡ t = moved-same S j t in
-    omega
-    (arith, sum-le-but (p .size) (moved S j t) S j 1 0 (h .below) (λ i b ne. moved-le S j t (omega arith) i) (omega arith))
+    omega (
+      arith,
+      sum-le-but (p .size) (moved S j t) S j 1 0 (h .below) (λ i b ne. moved-le S j t (omega arith) i) (omega arith),
+    )
 
 -- As long as it is not active some start can fall, and the sum of the starts with it.
 compact-within : (n : ℕ) (p : Project) (S : Starts) → sumBelow (p .size) S < n → Feasible p S → Compacted p S
@@ -38,7 +42,8 @@ compact-within (suc n) p S l f =
     (λ z.
     let s : Sooner p S = not-active p S f z in
     let S₁ : Starts = moved S (s .who) (s .to) in
-    let c : Compacted p S₁ = compact-within n p S₁ (omega (arith, starts-fall p S (s .who) (s .to) (s .has) (s .before))) (s .stays) in
+    let c : Compacted p S₁ =
+    compact-within n p S₁ (omega (arith, starts-fall p S (s .who) (s .to) (s .has) (s .before))) (s .stays) in
     record {
       into = c .into;
       is-active = c .is-active;
@@ -125,7 +130,8 @@ compact-makespan p S unfixed f = go (opening p S)
         }
 
 -- Before the first start nothing runs, so the first activity to start is at the floor.
-first-at-floor : (p : Project) (S : Starts) → Sound p → Unfixed p → Active p S → (k : ℕ) → Has p k → earliest p S ≡ S k → S k ≡ p .floor
+first-at-floor : (p : Project) (S : Starts) → Sound p → Unfixed p → Active p S → (k : ℕ) → Has p k
+    → earliest p S ≡ S k → S k ≡ p .floor
 first-at-floor p S sound unfixed a k h e =
     let f : Feasible p S = a .is-feasible in
     let low : p .floor ≤ S k = f .from-floor k h (unfixed .all-free k h) in
@@ -146,10 +152,14 @@ first-at-floor p S sound unfixed a k h e =
     in
     by-cases
     (decLt (p .floor) (S k))
-    (λ b. absurd (a .least k h (unfixed .all-free k h) (p .floor) b (move-earlier p S k (p .floor) h sooner f (unfixed .all-free k h))))
+    (λ b.
+    absurd
+    (a .least k h (unfixed .all-free k h) (p .floor) b
+    (move-earlier p S k (p .floor) h sooner f (unfixed .all-free k h))))
     (λ b. omega arith)
 
-pub active-makespan : (p : Project) (S : Starts) → Sound p → Unfixed p → Active p S → makespan p S ≡ latestEnd p S - p .floor
+pub active-makespan : (p : Project) (S : Starts) → Sound p → Unfixed p → Active p S
+    → makespan p S ≡ latestEnd p S - p .floor
 active-makespan p S sound unfixed a = go (opening p S)
   where
     go : Opening p S → makespan p S ≡ latestEnd p S - p .floor
@@ -157,13 +167,6 @@ active-makespan p S sound unfixed a = go (opening p S)
     go (empty no-one z) = omega (arith, makespan-is p S)
 
 -- From tick 0 on: the makespan is the latest end.
-pub makespan-latest : (p : Project) (S : Starts) → Sound p → Unfixed p → p .floor ≡ 0 → Active p S → makespan p S ≡ latestEnd p S
+pub makespan-latest : (p : Project) (S : Starts) → Sound p → Unfixed p → p .floor ≡ 0 → Active p S
+    → makespan p S ≡ latestEnd p S
 makespan-latest p S sound unfixed zero-floor a = omega (arith, active-makespan p S sound unfixed a)
-
--- With any activity at all, one starts at the floor.
-pub starts-at-floor : (p : Project) (S : Starts) → Sound p → Unfixed p → Active p S → (i : ℕ) → Has p i → (k : ℕ) × Has p k × (S k ≡ p .floor)
-starts-at-floor p S sound unfixed a i h = go (opening p S)
-  where
-    go : Opening p S → (k : ℕ) × Has p k × (S k ≡ p .floor)
-    go (opens k hk e) = (k, hk, first-at-floor p S sound unfixed a k hk e)
-    go (empty no-one z) = absurd (no-one i h)

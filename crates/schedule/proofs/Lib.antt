@@ -1,5 +1,4 @@
 -- The theory of schedules: facts about the definitions of specs/, for any units, gaps, begun activities and floor.
-pub mod Below
 pub mod Load
 pub mod Reflect
 pub mod Agree
@@ -7,8 +6,6 @@ pub mod Moves
 pub mod Makespan
 pub mod Compact
 pub mod Bounds
-pub mod Lists
 pub mod Box
-pub mod Shortest
-pub mod Device
+pub mod OneUnit
 pub mod Lower

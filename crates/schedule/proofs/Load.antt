@@ -8,12 +8,11 @@ use mathlib.Core.Path.{_≡_, refl}
 use mathlib.Core.Logic.{_≢_, by-cases}
 use lib.Dec.{leb, ltb}
 use borrow.Author.Tests.{leb-true, ltb-true, le-leb, lt-ltb, eq-eqb, ne-eqb}
-use Rattle.schedule.specs.Below.{sumBelow}
 use Rattle.schedule.specs.Project.{Project}
 pub use Rattle.schedule.specs.Bounds.{Has}
 use Rattle.schedule.specs.Schedule.{Starts, endOf, runs, load, latestEnd, moved}
-use Rattle.bools.proofs.Bools.{by-bool, both, and-left, and-right, cond-true, cond-false}
-use Rattle.schedule.proofs.Below.{cond-le, sum-le, sum-le-but, sum-zero, sum-term, sum-some, max-term, max-least}
+use Rattle.base.proofs.Bools.{by-bool, both, and-left, and-right, cond-true, cond-false}
+use Rattle.base.proofs.Below.{cond-le, sum-le, sum-le-but, sum-zero, sum-term, sum-some, max-term, max-least}
 
 -- Every activity lasts a tick or more.
 pub record Sound (p : Project) : Type 0 where
@@ -48,12 +47,15 @@ pub runs-of : (p : Project) (S : Starts) (t i : ℕ) → p .present i ≡ true �
 runs-of p S t i h k = both (both h (le-leb (S i) t (k .begins))) (lt-ltb t (endOf p S i) (k .ends))
 
 pub runs-there : (p : Project) (S : Starts) (t i : ℕ) → runs p S t i ≡ true → p .present i ≡ true
-runs-there p S t i e = and-left (p .present i) (leb (S i) t) (and-left (p .present i && leb (S i) t) (ltb t (endOf p S i)) e)
+runs-there p S t i e =
+    and-left (p .present i) (leb (S i) t) (and-left (p .present i && leb (S i) t) (ltb t (endOf p S i)) e)
 
 pub runs-is : (p : Project) (S : Starts) (t i : ℕ) → runs p S t i ≡ true → Runs p S t i
 runs-is p S t i e =
     record {
-      begins = leb-true (S i) t (and-right (p .present i) (leb (S i) t) (and-left (p .present i && leb (S i) t) (ltb t (endOf p S i)) e));
+      begins =
+          leb-true (S i) t
+          (and-right (p .present i) (leb (S i) t) (and-left (p .present i && leb (S i) t) (ltb t (endOf p S i)) e));
       ends = ltb-true t (endOf p S i) (and-right (p .present i && leb (S i) t) (ltb t (endOf p S i)) e);
     }
 
@@ -61,11 +63,8 @@ runs-is p S t i e =
 abbrev pub holds : Project → Starts → ℕ → ℕ → ℕ → ℕ
 holds p S t r i = cond (runs p S t i) (p .units i r) 0
 
-pub load-sum : (p : Project) (S : Starts) (t r : ℕ) → load p S t r ≡ sumBelow (p .size) (holds p S t r)
-unfolding load
-load-sum p S t r = refl
-
-pub holds-all : (p : Project) (S : Starts) (t r i : ℕ) → p .present i ≡ true → Runs p S t i → holds p S t r i ≡ p .units i r
+pub holds-all : (p : Project) (S : Starts) (t r i : ℕ) → p .present i ≡ true → Runs p S t i
+    → holds p S t r i ≡ p .units i r
 holds-all p S t r i h k = cond-true (p .units i r) 0 (runs-of p S t i h k)
 
 pub holds-some : (p : Project) (S : Starts) (t r i : ℕ) → 0 < holds p S t r i → runs p S t i ≡ true
@@ -76,7 +75,9 @@ pub holds-le : (p : Project) (S : Starts) (t r i : ℕ) → holds p S t r i ≤ 
 holds-le p S t r i = cond-le (runs p S t i) (p .units i r)
 
 -- What holds units of r in one runs in the other too.
-pub holds-mono : (p : Project) (F G : ℕ → Bool) (S S′ : Starts) (t t′ r i : ℕ) → (0 < p .units i r → F i ≡ true → Runs p S t i → (G i ≡ true) × Runs p S′ t′ i) → holds (among p F) S t r i ≤ holds (among p G) S′ t′ r i
+pub holds-mono : (p : Project) (F G : ℕ → Bool) (S S′ : Starts) (t t′ r i : ℕ)
+    → (0 < p .units i r → F i ≡ true → Runs p S t i → (G i ≡ true) × Runs p S′ t′ i)
+    → holds (among p F) S t r i ≤ holds (among p G) S′ t′ r i
 holds-mono p F G S S′ t t′ r i f =
     by-cases
     (ℕ-discrete (holds (among p F) S t r i) 0)
@@ -88,13 +89,18 @@ holds-mono p F G S S′ t t′ r i f =
     let (there, k) = f (omega arith) (runs-there (among p F) S t i y) (runs-is (among p F) S t i y) in
     omega (arith, holds-all (among p G) S′ t′ r i there k))
 
-pub load-mono : (p : Project) (F G : ℕ → Bool) (S S′ : Starts) (t t′ r : ℕ) → ((i : ℕ) → i < p .size → 0 < p .units i r → F i ≡ true → Runs p S t i → (G i ≡ true) × Runs p S′ t′ i) → load (among p F) S t r ≤ load (among p G) S′ t′ r
+pub load-mono : (p : Project) (F G : ℕ → Bool) (S S′ : Starts) (t t′ r : ℕ)
+    → ((i : ℕ) → i < p .size → 0 < p .units i r → F i ≡ true → Runs p S t i → (G i ≡ true) × Runs p S′ t′ i)
+    → load (among p F) S t r ≤ load (among p G) S′ t′ r
 unfolding load
 load-mono p F G S S′ t t′ r f =
-    sum-le (p .size) (holds (among p F) S t r) (holds (among p G) S′ t′ r) (λ i l. holds-mono p F G S S′ t t′ r i (f i l))
+    sum-le (p .size) (holds (among p F) S t r) (holds (among p G) S′ t′ r)
+    (λ i l. holds-mono p F G S S′ t t′ r i (f i l))
 
 -- The same, but for what j may hold more.
-pub load-mono-but : (p : Project) (F G : ℕ → Bool) (S S′ : Starts) (t t′ r j : ℕ) → j < p .size → ((i : ℕ) → i < p .size → i ≢ j → F i ≡ true → Runs p S t i → (G i ≡ true) × Runs p S′ t′ i) → load (among p F) S t r ≤ load (among p G) S′ t′ r + p .units j r
+pub load-mono-but : (p : Project) (F G : ℕ → Bool) (S S′ : Starts) (t t′ r j : ℕ) → j < p .size
+    → ((i : ℕ) → i < p .size → i ≢ j → F i ≡ true → Runs p S t i → (G i ≡ true) × Runs p S′ t′ i)
+    → load (among p F) S t r ≤ load (among p G) S′ t′ r + p .units j r
 unfolding load
 load-mono-but p F G S S′ t t′ r j l f =
     omega (

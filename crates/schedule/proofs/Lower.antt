@@ -1,24 +1,21 @@
--- Bounds of the makespan from below, by any chain of precedence and by what any resource has to carry; and from above by
--- the sum of the durations.
+-- Bounds of the makespan from below, by any chain of precedence and by what any resource has to carry; and from above
+-- by the sum of the durations.
 use Prim.Native.Nat.{ℕ, _+_, _*_, _-_, _/_, _≤_, _<_}
 use native.Mathlib.Nat.{le-of-suc-le-suc, div-lt-iff-lt-mul}
 use native.Mathlib.Omega.{arith}
-use mathlib.Core.Bool.{true, cond, _&&_}
-use mathlib.Core.Path.{_≡_, _∙_, ap}
+use mathlib.Core.Bool.{cond}
 use mathlib.Core.List.{List, [], _∷_}
-use lib.Dec.{eqb}
-use Rattle.schedule.specs.Below.{sumBelow}
+use Rattle.base.specs.Below.{sumBelow}
 use Rattle.schedule.specs.Project.{Project}
 pub use Rattle.schedule.specs.Bounds.{Chain, chainLength, demand}
 use Rattle.schedule.specs.Schedule.{Starts, load, latestEnd, makespan}
-use Rattle.bools.proofs.Bools.{by-bool, and-left, and-right, cond-true, cond-false}
-use Rattle.schedule.proofs.Below.{sum-le, sum-const, sum-window, sum-swap}
+use Rattle.base.proofs.Bools.{by-bool, cond-true, cond-false}
+use Rattle.base.proofs.Below.{sum-le, sum-const, sum-window, sum-swap}
 use Rattle.schedule.proofs.Load.{Has, Sound, Unfixed, holds, holds-all, end-le}
 use Rattle.schedule.proofs.Reflect.{Feasible, Active}
 use Rattle.schedule.proofs.Makespan.{earliest, earliest-le, makespan-is}
 use Rattle.schedule.proofs.Compact.{active-makespan}
 use Rattle.schedule.proofs.Bounds.{NoGaps, work, latest-by-work}
-use Rattle.schedule.proofs.Device.{OneUnit}
 
 chain-head : (p : Project) (i : ℕ) (js : List ℕ) → Chain p i js → Has p i
 chain-head p i [] c = c
@@ -36,7 +33,8 @@ module _ (p : Project) (S : Starts) (f : Feasible p S) where
       omega (arith, chain-latest i js c, earliest-le p S i (chain-head p i js c), makespan-is p S)
 
 -- On the ticks from the earliest start to the latest end each activity runs for its duration.
-holds-over : (p : Project) (S : Starts) (r i : ℕ) → Has p i → p .duration i * p .units i r ≤ sumBelow (makespan p S) (λ t. holds p S (earliest p S + t) r i)
+holds-over : (p : Project) (S : Starts) (r i : ℕ) → Has p i
+    → p .duration i * p .units i r ≤ sumBelow (makespan p S) (λ t. holds p S (earliest p S + t) r i)
 holds-over p S r i h =
     let first : earliest p S ≤ S i = earliest-le p S i h in
     sum-window
@@ -48,7 +46,8 @@ holds-over p S r i h =
     (omega (arith, makespan-is p S, end-le p S i h))
     (λ t a b. omega (arith, holds-all p S (earliest p S + t) r i (h .there) (omega arith)))
 
-demand-over : (p : Project) (S : Starts) (r : ℕ) → demand p r ≤ sumBelow (makespan p S) (λ t. load p S (earliest p S + t) r)
+demand-over : (p : Project) (S : Starts) (r : ℕ)
+    → demand p r ≤ sumBelow (makespan p S) (λ t. load p S (earliest p S + t) r)
 unfolding demand load
 demand-over p S r =
     omega (
@@ -67,52 +66,22 @@ demand-over p S r =
           (λ z. omega (arith, cond-false (p .duration i * p .units i r) 0 z))),
     )
 
-pub demand-bound : (p : Project) (S : Starts) → Feasible p S → (r : ℕ) → r < p .resources → demand p r ≤ makespan p S * p .capacity r
+pub demand-bound : (p : Project) (S : Starts) → Feasible p S → (r : ℕ) → r < p .resources
+    → demand p r ≤ makespan p S * p .capacity r
 demand-bound p S f r l =
     omega (
       arith,
       demand-over p S r,
-      sum-const (makespan p S) (λ t. load p S (earliest p S + t) r) (p .capacity r) (λ t b. f .fits (earliest p S + t) r l),
+      sum-const (makespan p S) (λ t. load p S (earliest p S + t) r) (p .capacity r)
+          (λ t b. f .fits (earliest p S + t) r l),
     )
 
--- Shared out over the units of r and rounded up.
-pub demand-rounded : (p : Project) (S : Starts) → Feasible p S → (r : ℕ) → r < p .resources → 0 < p .capacity r → (demand p r + (p .capacity r - 1)) / p .capacity r ≤ makespan p S
+-- Shared out over the units of r and rounded up. It waits for an edition with several units to a resource.
+pub demand-rounded : (p : Project) (S : Starts) → Feasible p S → (r : ℕ) → r < p .resources → 0 < p .capacity r
+    → (demand p r + (p .capacity r - 1)) / p .capacity r ≤ makespan p S
 demand-rounded p S f r l some =
     let within : demand p r ≤ makespan p S * p .capacity r = demand-bound p S f r l in
     le-of-suc-le-suc (div-lt-iff-lt-mul some .1 (omega arith))
-
--- With one unit to a resource: the durations of the activities on it.
-unfoldable pub deviceLoad : Project → (ℕ → ℕ) → ℕ → ℕ
-deviceLoad p device r = sumBelow (p .size) λ i. cond (p .present i && eqb (device i) r) (p .duration i) 0
-
-device-demand : (p : Project) (device : ℕ → ℕ) → OneUnit p device → (r : ℕ) → r < p .resources → deviceLoad p device r ≤ demand p r
-unfolding deviceLoad demand
-device-demand p device one r l =
-    sum-le
-    (p .size)
-    (λ i. cond (p .present i && eqb (device i) r) (p .duration i) 0)
-    (λ i. cond (p .present i) (p .duration i * p .units i r) 0)
-    (λ i b.
-    by-bool
-    (p .present i && eqb (device i) r)
-    (λ y.
-    let there : p .present i ≡ true = and-left (p .present i) (eqb (device i) r) y in
-    let own : p .units i r ≡ 1 =
-    one .takes i r (record { below = b; there = there }) l
-    ∙ cond-true 1 0 (and-right (p .present i) (eqb (device i) r) y)
-    in
-    omega (
-      arith,
-      cond-true (p .duration i) 0 y,
-      cond-true (p .duration i * p .units i r) 0 there,
-      ap (p .duration i *_) own,
-    ))
-    (λ z. omega (arith, cond-false (p .duration i) 0 z)))
-
-pub device-bound : (p : Project) (device : ℕ → ℕ) (S : Starts) → OneUnit p device → Feasible p S → (r : ℕ) → r < p .resources → deviceLoad p device r ≤ makespan p S
-device-bound p device S one f r l =
-    omega
-    (arith, device-demand p device one r l, demand-bound p S f r l, ap (makespan p S *_) (one .single r l))
 
 -- From above.
 pub work-bound : (p : Project) (S : Starts) → Sound p → Unfixed p → NoGaps p → Active p S → makespan p S ≤ work p

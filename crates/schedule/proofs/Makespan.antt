@@ -8,10 +8,11 @@ use mathlib.Core.Path.{_≡_, refl, _∙_}
 use mathlib.Core.Logic.{by-cases}
 use Rattle.schedule.specs.Project.{Project}
 use Rattle.schedule.specs.Schedule.{Starts, latestEnd, earliestStart, makespan}
-use Rattle.bools.proofs.Bools.{by-bool, true-not-false, cond-true, cond-false}
+use Rattle.base.proofs.Bools.{by-bool, true-not-false, cond-true, cond-false}
 use Rattle.schedule.proofs.Load.{Has, end-le, ends-least}
 
-earliest-le-below : (p : Project) (S : Starts) (n : ℕ) (i : ℕ) → i < n → p .present i ≡ true → earliestStart p S n ≤ S i
+earliest-le-below : (p : Project) (S : Starts) (n : ℕ) (i : ℕ) → i < n → p .present i ≡ true
+    → earliestStart p S n ≤ S i
 unfolding earliestStart
 earliest-le-below p S zero i l y = absurd (not-suc-le-zero l)
 earliest-le-below p S (suc n) i l y =
@@ -48,7 +49,9 @@ first-next p S n l (none f e) =
     let first : ℕ = earliestStart p S n in
     by-bool
     (p .present n)
-    (λ c. starts n (omega arith) c (omega (arith, cond-true (min first (S n)) first c, end-le p S n (record { below = l; there = c }))))
+    (λ c.
+    starts n (omega arith) c
+    (omega (arith, cond-true (min first (S n)) first c, end-le p S n (record { below = l; there = c }))))
     (λ c.
     none
     (λ i b. by-cases (ℕ-discrete i n) (λ q. rw q c) (λ ne. f i (omega arith)))

@@ -8,8 +8,9 @@ use mathlib.Core.Path.{_≡_, _∙_, ap}
 use mathlib.Core.Logic.{by-cases}
 use Rattle.schedule.specs.Project.{Project}
 use Rattle.schedule.specs.Schedule.{Starts, endOf, load, moved}
-use Rattle.bools.proofs.Bools.{true-not-false}
-use Rattle.schedule.proofs.Load.{Has, Sound, Runs, among, load-mono, load-mono-but, units-in-load, moved-same, moved-other}
+use Rattle.base.proofs.Bools.{true-not-false}
+use Rattle.schedule.proofs.Load.{Has, Sound, Runs, among, load-mono, load-mono-but, units-in-load, moved-same}
+use Rattle.schedule.proofs.Load.{moved-other}
 use Rattle.schedule.proofs.Reflect.{Feasible}
 
 pub moved-le : (S : Starts) (j t : ℕ) → t ≤ S j → (i : ℕ) → moved S j t i ≤ S i
@@ -24,7 +25,8 @@ pub record Earlier (p : Project) (S : Starts) (j t : ℕ) : Type 0 where
   pub lower : t ≤ S j
   pub from-floor : p .floor ≤ t
   pub ready : (i : ℕ) → Has p i → p .precedes i j ≡ true → endOf p S i + p .gap i j ≤ t
-  pub room : (u r : ℕ) → r < p .resources → t ≤ u → u < S j → u < t + p .duration j → load p S u r + p .units j r ≤ p .capacity r
+  pub room : (u r : ℕ) → r < p .resources → t ≤ u → u < S j → u < t + p .duration j
+      → load p S u r + p .units j r ≤ p .capacity r
 
 module _ (p : Project) (S : Starts) (j t : ℕ) (has : Has p j) (e : Earlier p S j t) where
   -- Off the ticks that j takes anew nothing more runs.
@@ -46,7 +48,8 @@ module _ (p : Project) (S : Starts) (j t : ℕ) (has : Has p j) (e : Earlier p S
       let at : moved S j t i ≡ t = rw q (moved-same S j t) in
       let old : S i ≡ S j = ap S q in
       let long : p .duration i ≡ p .duration j = ap (p .duration) q in
-      let late : S j ≤ u = by-cases (decLe (S j) u) (λ b. b) (λ b. absurd (off (omega arith) (omega arith) (omega arith))) in
+      let late : S j ≤ u =
+      by-cases (decLe (S j) u) (λ b. b) (λ b. absurd (off (omega arith) (omega arith) (omega arith))) in
       (y, omega (arith, e .lower)))
       (λ ne. let same : moved S j t i ≡ S i = moved-other S j t i ne in (y, omega arith)))
 
@@ -80,7 +83,8 @@ module _ (p : Project) (S : Starts) (j t : ℕ) (has : Has p j) (e : Earlier p S
       (λ b. omega (arith, moved-load u r (λ x y z. b y), f .fits u r l)))
       (λ a. omega (arith, moved-load u r (λ x y z. a x), f .fits u r l))
 
-  moved-ordered : Feasible p S → (i k : ℕ) → Has p i → Has p k → p .precedes i k ≡ true → endOf p (moved S j t) i + p .gap i k ≤ moved S j t k
+  moved-ordered : Feasible p S → (i k : ℕ) → Has p i → Has p k → p .precedes i k ≡ true
+      → endOf p (moved S j t) i + p .gap i k ≤ moved S j t k
   moved-ordered f i k hi hk o =
       let less : moved S j t i ≤ S i = moved-le S j t (e .lower) i in
       by-cases
@@ -112,15 +116,18 @@ module _ (p : Project) (S : Starts) (j t : ℕ) (has : Has p j) (e : Earlier p S
       }
 
 -- The case in which all that runs before the old start of j, on the resources of j, belongs to a set F: then it is
--- enough that j fits among F.
+-- enough that j fits among F. It waits for an edition with several units to a resource.
 pub record EarlierAmong (p : Project) (F : ℕ → Bool) (S : Starts) (j t : ℕ) : Type 0 where
   pub lower : t ≤ S j
   pub from-floor : p .floor ≤ t
   pub ready : (i : ℕ) → Has p i → p .precedes i j ≡ true → endOf p S i + p .gap i j ≤ t
-  pub frozen : (u r i : ℕ) → r < p .resources → u < S j → Has p i → Runs p S u i → 0 < p .units i r → 0 < p .units j r → F i ≡ true
-  pub room : (u r : ℕ) → r < p .resources → t ≤ u → u < t + p .duration j → load (among p F) S u r + p .units j r ≤ p .capacity r
+  pub frozen : (u r i : ℕ) → r < p .resources → u < S j → Has p i → Runs p S u i → 0 < p .units i r → 0 < p .units j r
+      → F i ≡ true
+  pub room : (u r : ℕ) → r < p .resources → t ≤ u → u < t + p .duration j
+      → load (among p F) S u r + p .units j r ≤ p .capacity r
 
-pub earlier-among : (p : Project) (F : ℕ → Bool) (S : Starts) (j t : ℕ) → Feasible p S → EarlierAmong p F S j t → Earlier p S j t
+pub earlier-among : (p : Project) (F : ℕ → Bool) (S : Starts) (j t : ℕ) → Feasible p S → EarlierAmong p F S j t
+    → Earlier p S j t
 earlier-among p F S j t f e =
     record {
       lower = e .lower;
@@ -149,7 +156,8 @@ earlier-among p F S j t f e =
     }
 
 -- Each activity fits by itself.
-pub own-fits : (p : Project) (S : Starts) → Sound p → Feasible p S → (i r : ℕ) → Has p i → r < p .resources → p .units i r ≤ p .capacity r
+pub own-fits : (p : Project) (S : Starts) → Sound p → Feasible p S → (i r : ℕ) → Has p i → r < p .resources
+    → p .units i r ≤ p .capacity r
 own-fits p S sound f i r h l =
     let long : 1 ≤ p .duration i = sound .lasts i h in
     omega (arith, units-in-load p S (S i) r i h (omega arith), f .fits (S i) r l)

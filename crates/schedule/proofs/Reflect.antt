@@ -1,5 +1,5 @@
--- What the tests of specs/Schedule.antt say: feasible and active as records of facts, and that both, the latest end and
--- the makespan go by the starts of the project's activities alone.
+-- What the tests of specs/Schedule.antt say: feasible and active as records of facts, and that both, the latest end
+-- and the makespan go by the starts of the project's activities alone.
 use Prim.Native.Nat.{ℕ, _+_, _≤_, _<_}
 use native.Mathlib.Decide.{decLt}
 use native.Mathlib.Omega.{arith}
@@ -8,11 +8,12 @@ use mathlib.Core.Path.{_≡_, refl, sym, _∙_}
 use mathlib.Core.Logic.{_↔_, by-cases}
 use lib.Dec.{leb, eqb}
 use borrow.Author.Tests.{leb-true, le-leb, eqb-true, eq-eqb, not-true, not-false}
-use Rattle.schedule.specs.Below.{everyBelow, _implies_}
+use Rattle.base.specs.Below.{everyBelow, _implies_}
 use Rattle.schedule.specs.Project.{Project}
-use Rattle.schedule.specs.Schedule.{Starts, endOf, load, latestEnd, placed, inOrder, withinCapacity, feasible, moved, active}
-use Rattle.bools.proofs.Bools.{by-bool, true-not-false, both, and-left, and-right, not-both, cond-true, cond-false}
-use Rattle.schedule.proofs.Below.{implies-elim, implies-intro, implies-fails, every-at, every-of, every-fails}
+use Rattle.schedule.specs.Schedule.{Starts, endOf, load, latestEnd, placed, inOrder, withinCapacity, feasible}
+use Rattle.schedule.specs.Schedule.{moved, active}
+use Rattle.base.proofs.Bools.{by-bool, true-not-false, both, and-left, and-right, not-both, cond-true, cond-false}
+use Rattle.base.proofs.Below.{implies-elim, implies-intro, implies-fails, every-at, every-of, every-fails}
 use Rattle.schedule.proofs.Load.{Has, load-after}
 
 pub record Feasible (p : Project) (S : Starts) : Type 0 where
@@ -34,7 +35,8 @@ placed-test p S i = cond (p .free i) (leb (p .floor) (S i)) (eqb (S i) (p .begun
 placed-true : (p : Project) (S : Starts) → placed p S ≡ true → (i : ℕ) → Has p i → placed-test p S i ≡ true
 unfolding placed placed-test
 placed-true p S e i h =
-    implies-elim (p .present i) (placed-test p S i) (every-at (p .size) (λ k. p .present k implies placed-test p S k) e i (h .below)) (h .there)
+    implies-elim (p .present i) (placed-test p S i)
+    (every-at (p .size) (λ k. p .present k implies placed-test p S k) e i (h .below)) (h .there)
 
 placed-of : (p : Project) (S : Starts) → ((i : ℕ) → Has p i → placed-test p S i ≡ true) → placed p S ≡ true
 unfolding placed placed-test
@@ -47,7 +49,8 @@ placed-of p S f =
 order-test : Project → Starts → ℕ → ℕ → Bool
 order-test p S j i = (p .present i && p .present j && p .precedes i j) implies leb (endOf p S i + p .gap i j) (S j)
 
-order-true : (p : Project) (S : Starts) → inOrder p S ≡ true → (i j : ℕ) → Has p i → Has p j → p .precedes i j ≡ true → endOf p S i + p .gap i j ≤ S j
+order-true : (p : Project) (S : Starts) → inOrder p S ≡ true → (i j : ℕ) → Has p i → Has p j → p .precedes i j ≡ true
+    → endOf p S i + p .gap i j ≤ S j
 unfolding inOrder order-test
 order-true p S e i j hi hj o =
     let inner : everyBelow (p .size) (order-test p S j) ≡ true =
@@ -62,7 +65,8 @@ order-true p S e i j hi hj o =
     (every-at (p .size) (order-test p S j) inner i (hi .below))
     (both (both (hi .there) (hj .there)) o))
 
-order-of : (p : Project) (S : Starts) → ((i j : ℕ) → Has p i → Has p j → p .precedes i j ≡ true → endOf p S i + p .gap i j ≤ S j) → inOrder p S ≡ true
+order-of : (p : Project) (S : Starts)
+    → ((i j : ℕ) → Has p i → Has p j → p .precedes i j ≡ true → endOf p S i + p .gap i j ≤ S j) → inOrder p S ≡ true
 unfolding inOrder order-test
 order-of p S f =
     every-of
@@ -89,7 +93,8 @@ order-of p S f =
     (and-right (p .present i && p .present j) (p .precedes i j) y)))))
 
 -- Ticks from the latest end on need no test.
-fits-true : (p : Project) (S : Starts) → withinCapacity p S ≡ true → (t r : ℕ) → r < p .resources → load p S t r ≤ p .capacity r
+fits-true : (p : Project) (S : Starts) → withinCapacity p S ≡ true → (t r : ℕ) → r < p .resources
+    → load p S t r ≤ p .capacity r
 unfolding withinCapacity
 fits-true p S e t r l =
     by-cases
@@ -106,7 +111,8 @@ fits-true p S e t r l =
     l))
     (λ b. omega (arith, load-after p S t r (omega arith)))
 
-fits-of : (p : Project) (S : Starts) → ((t r : ℕ) → r < p .resources → load p S t r ≤ p .capacity r) → withinCapacity p S ≡ true
+fits-of : (p : Project) (S : Starts) → ((t r : ℕ) → r < p .resources → load p S t r ≤ p .capacity r)
+    → withinCapacity p S ≡ true
 unfolding withinCapacity
 fits-of p S f =
     every-of
@@ -122,10 +128,16 @@ pub feasible-is : (p : Project) (S : Starts) → feasible p S ≡ true → Feasi
 unfolding feasible placed-test
 feasible-is p S e =
     let two : (placed p S && inOrder p S) ≡ true = and-left (placed p S && inOrder p S) (withinCapacity p S) e in
-    let place : (i : ℕ) → Has p i → placed-test p S i ≡ true = placed-true p S (and-left (placed p S) (inOrder p S) two) in
+    let place : (i : ℕ) → Has p i → placed-test p S i ≡ true =
+    placed-true p S (and-left (placed p S) (inOrder p S) two) in
     record {
-      from-floor = λ i h y. leb-true (p .floor) (S i) (sym (cond-true (leb (p .floor) (S i)) (eqb (S i) (p .begun i)) y) ∙ place i h);
-      as-begun = λ i h z. eqb-true (S i) (p .begun i) (sym (cond-false (leb (p .floor) (S i)) (eqb (S i) (p .begun i)) z) ∙ place i h);
+      from-floor =
+          λ i h y.
+          leb-true (p .floor) (S i) (sym (cond-true (leb (p .floor) (S i)) (eqb (S i) (p .begun i)) y) ∙ place i h);
+      as-begun =
+          λ i h z.
+          eqb-true (S i) (p .begun i)
+          (sym (cond-false (leb (p .floor) (S i)) (eqb (S i) (p .begun i)) z) ∙ place i h);
       ordered = order-true p S (and-right (placed p S) (inOrder p S) two);
       fits = fits-true p S (and-right (placed p S && inOrder p S) (withinCapacity p S) e);
     }
@@ -142,7 +154,8 @@ feasible-of p S f =
     by-bool
     (p .free i)
     (λ y. cond-true (leb (p .floor) (S i)) (eqb (S i) (p .begun i)) y ∙ le-leb (p .floor) (S i) (f .from-floor i h y))
-    (λ z. cond-false (leb (p .floor) (S i)) (eqb (S i) (p .begun i)) z ∙ eq-eqb (S i) (p .begun i) (f .as-begun i h z))))
+    (λ z.
+    cond-false (leb (p .floor) (S i)) (eqb (S i) (p .begun i)) z ∙ eq-eqb (S i) (p .begun i) (f .as-begun i h z))))
     (order-of p S (f .ordered)))
     (fits-of p S (f .fits))
 
@@ -165,7 +178,8 @@ active-is p S e =
           implies-elim
           (p .present j && p .free j)
           (everyBelow (S j) λ u. not (feasible p (moved S j u)))
-          (every-at (p .size) (least-test p S) (and-right (feasible p S) (everyBelow (p .size) (least-test p S)) e) j (h .below))
+          (every-at (p .size) (least-test p S) (and-right (feasible p S) (everyBelow (p .size) (least-test p S)) e) j
+          (h .below))
           (both (h .there) y)
           in
           true-not-false
@@ -205,9 +219,6 @@ active-of p S a =
     b
     (feasible-is p (moved S j t) f))))))
 
-pub active-iff : (p : Project) (S : Starts) → (active p S ≡ true) ↔ Active p S
-active-iff p S = (active-is p S, active-of p S)
-
 -- A feasible schedule that is not active has a free activity that can start sooner.
 pub record Sooner (p : Project) (S : Starts) : Type 0 where
   pub who : ℕ
@@ -220,8 +231,12 @@ pub record Sooner (p : Project) (S : Starts) : Type 0 where
 pub not-active : (p : Project) (S : Starts) → Feasible p S → active p S ≡ false → Sooner p S
 unfolding active least-test
 not-active p S f e =
-    let (j, l, z) = every-fails (p .size) (least-test p S) (not-both (feasible p S) (everyBelow (p .size) (least-test p S)) e (feasible-of p S f)) in
-    let (y, low) = implies-fails (p .present j && p .free j) (everyBelow (S j) λ u. not (feasible p (moved S j u))) z in
+    let (j, l, z) =
+    every-fails (p .size) (least-test p S)
+    (not-both (feasible p S) (everyBelow (p .size) (least-test p S)) e (feasible-of p S f))
+    in
+    let (y, low) =
+    implies-fails (p .present j && p .free j) (everyBelow (S j) λ u. not (feasible p (moved S j u))) z in
     let (t, b, stays) = every-fails (S j) (λ u. not (feasible p (moved S j u))) low in
     record {
       who = j;

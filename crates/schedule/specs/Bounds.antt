@@ -4,7 +4,7 @@ use Prim.Native.Nat.{ℕ, _+_, _*_, _<_}
 use mathlib.Core.Bool.{true, cond}
 use mathlib.Core.List.{List, [], _∷_}
 use mathlib.Core.Path.{_≡_}
-use Rattle.schedule.specs.Below.{sumBelow}
+use Rattle.base.specs.Below.{sumBelow}
 use Rattle.schedule.specs.Project.{Project}
 
 -- i is an activity of the project.

@@ -1,6 +1,6 @@
 -- Schedules: what is feasible, what is active, the makespan, and the list of the active ones.
-pub mod Below
 pub mod Project
 pub mod Schedule
 pub mod Sessions
 pub mod Bounds
+pub mod Words

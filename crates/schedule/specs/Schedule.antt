@@ -1,9 +1,9 @@
 -- A schedule (a session in the paper's words) gives each activity a start, any whole number of ticks. Document 000,
 -- Definition 2, with units, gaps, and activities that have begun.
 use Prim.Native.Nat.{ℕ, zero, suc, _+_, _-_, min}
-use mathlib.Core.Bool.{Bool, true, false, not, cond, _&&_, _||_}
+use mathlib.Core.Bool.{Bool, not, cond, _&&_}
 use lib.Dec.{leb, ltb, eqb}
-use Rattle.schedule.specs.Below.{everyBelow, sumBelow, maxBelow, _implies_}
+use Rattle.base.specs.Below.{everyBelow, sumBelow, maxBelow, _implies_}
 use Rattle.schedule.specs.Project.{Project}
 
 abbrev pub Starts : Type 0
@@ -23,7 +23,8 @@ unfoldable pub latestEnd : Project → Starts → ℕ
 latestEnd p S = maxBelow (p .size) λ i. cond (p .present i) (endOf p S i) 0
 
 unfoldable pub placed : Project → Starts → Bool
-placed p S = everyBelow (p .size) λ i. p .present i implies cond (p .free i) (leb (p .floor) (S i)) (eqb (S i) (p .begun i))
+placed p S =
+    everyBelow (p .size) λ i. p .present i implies cond (p .free i) (leb (p .floor) (S i)) (eqb (S i) (p .begun i))
 
 unfoldable pub inOrder : Project → Starts → Bool
 inOrder p S =
@@ -39,11 +40,13 @@ feasible p S = placed p S && inOrder p S && withinCapacity p S
 abbrev pub moved : Starts → ℕ → ℕ → Starts
 moved S j t i = cond (eqb i j) t (S i)
 
--- Feasible, and no single start of a free activity can be made smaller, the others unchanged, so that it remains feasible.
+-- Feasible, and no single start of a free activity can be made smaller, the others unchanged, so that it remains
+-- feasible.
 unfoldable pub active : Project → Starts → Bool
 active p S =
     feasible p S
-    && everyBelow (p .size) λ j. (p .present j && p .free j) implies everyBelow (S j) λ t. not (feasible p (moved S j t))
+    && everyBelow (p .size) λ j.
+    (p .present j && p .free j) implies everyBelow (S j) λ t. not (feasible p (moved S j t))
 
 -- Of the activities below n.
 unfoldable pub earliestStart : Project → Starts → ℕ → ℕ

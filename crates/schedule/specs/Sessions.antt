@@ -1,16 +1,13 @@
--- The active schedules of a project as a list: those among all rows of the box, in the order of their starts. A row has
--- a start for each activity number and `mark` for an absent one.
-use Prim.Native.Nat.{ℕ, zero, suc, _+_, max}
-use mathlib.Core.Bool.{Bool, true, false, cond, _&&_}
-use mathlib.Core.List.{List, [], _∷_, _++_, map}
+-- The active schedules of a project as a list: those among all rows of the box, in the order of their starts. A row
+-- has a start for each activity number and `mark` for an absent one.
+use Prim.Native.Nat.{ℕ, zero, suc, _+_}
+use mathlib.Core.Bool.{cond, _&&_}
+use mathlib.Core.List.{List, [], _∷_, map}
 use lib.ListN.{getD}
-use Rattle.schedule.specs.Below.{sumBelow, maxBelow}
+use Rattle.base.specs.Below.{sumBelow, maxBelow}
+use Rattle.base.specs.Lists.{keep, gather}
 use Rattle.schedule.specs.Project.{Project}
 use Rattle.schedule.specs.Schedule.{Starts, active}
-
-unfoldable pub keep {ℓ} : {A : Type ℓ} → (A → Bool) → List A → List A
-keep f [] = []
-keep f (x ∷ xs) = cond (f x) (x ∷ keep f xs) (keep f xs)
 
 -- The widest gap before an activity.
 unfoldable pub wait : Project → ℕ → ℕ
@@ -18,12 +15,10 @@ wait p j = maxBelow (p .size) λ i. cond (p .present i && p .precedes i j) (p .g
 
 -- No active schedule has a start as late as this, where each activity lasts a tick or more.
 unfoldable pub horizon : Project → ℕ
-horizon p = p .floor + sumBelow (p .size) λ i. cond (p .present i) (p .duration i + wait p i + cond (p .free i) 0 (p .begun i)) 0
-
--- f 0 ++ f 1 ++ .. ++ f (n - 1)
-unfoldable pub gather {ℓ} : {A : Type ℓ} → ℕ → (ℕ → List A) → List A
-gather zero f = []
-gather (suc n) f = gather n f ++ f n
+horizon p =
+    p .floor
+    + sumBelow (p .size) λ i.
+    cond (p .present i) (p .duration i + wait p i + cond (p .free i) 0 (p .begun i)) 0
 
 -- The rows of the activities from number k on, of which there are n more.
 unfoldable pub rows : Project → ℕ → ℕ → ℕ → List (List ℕ)

@@ -1,26 +1,30 @@
--- The table as the problem that is asked for, and the node at which the search starts.
-use Prim.Native.Nat.{ℕ, zero, suc, _+_, _/_, _%_, _≤_, _<_}
+-- The table as the problem that is asked for, and the state at which the search starts.
+use Prim.Native.Nat.{ℕ, zero, suc, _+_, _/_, _%_, _<_}
 use native.Mathlib.Decide.{decLt}
 use native.Mathlib.Omega.{arith}
 use mathlib.Core.Bool.{Bool, true, false, false≢true, cond, not, _&&_}
-use mathlib.Core.List.{List}
+use mathlib.Core.List.{List, foldl}
 use mathlib.Core.Logic.{by-cases}
-use mathlib.Core.Path.{_≡_, refl, sym, ap, _∙_, subst, fun-ext}
-use lib.ListN.{getD, take, drop, replicate, length-take, List·getD-eq-default}
+use mathlib.Core.Path.{_≡_, refl, sym, ap, ap₂, _∙_, fun-ext}
+use lib.ListN.{getD, drop, replicate}
 use lib.Seq.{getD-take}
-use Rattle.plan.specs.Limits.{longestDuration}
-use Rattle.schedule.specs.Below.{maxBelow}
-use Rattle.schedule.proofs.Below.{max-least}
-use Rattle.sets.proofs.Laws.{has-none, has-above, size-le}
-use Rattle.sets.specs.Sets.{most, has, meet, size}
-use Rattle.scan.proofs.Model.{Problem, devices, width, root, scanned, ready, isOpen}
-use Rattle.network.specs.Network.{packedAt, predsAt, Network, Tabled}
-use Rattle.search.specs.Tables.{tablesOf, problemOf, Asked}
-use Rattle.search.specs.Seen.{Setting, settingOf, settingIn, tallyOf, kept, keptOf, latestEnd, allSeen, Searched}
-use Rattle.search.specs.declared.Tally.{Tally}
-use Rattle.choices.specs.Work.{Timed, Opened}
-use Rattle.search.specs.Standing.{Fit, AtNode}
+use Rattle.plan.specs.Limits.{mostResources, packing, wordValues}
+use Rattle.base.specs.Below.{maxBelow}
+use Rattle.base.proofs.Below.{max-least}
+use Rattle.sets.proofs.Laws.{has-none, size-le}
+use Rattle.sets.specs.Sets.{most, has, meet, size, width}
+use Rattle.scan.specs.Model.{Problem, root, scanned, ready, isOpen, problemOf, scanOf}
+use Rattle.network.specs.Network.{predsAt, Network, durationAt, resourceAt, predsFrom}
+use Rattle.search.specs.Tables.{problemIn}
+use Rattle.search.specs.Seen.{Setting, settingIn, keptOf, IsTally, allSeen, Kept, seen}
+use Rattle.candidates.specs.Work.{Timed, Opened, readyFrom, freeFrom, workCells}
+use Rattle.search.specs.Standing.{Fit, AtState, position, Standing, Explored}
 use Rattle.search.proofs.Columns.{preds-at}
+use Rattle.variant.specs.declared.Variant.{Variant}
+use Rattle.variant.specs.Tables.{entryIn, IsVariant, Tabled}
+use Rattle.variant.specs.Project.{variantAt}
+use Rattle.term.specs.Valid.{HasVariant}
+use Rattle.variant.proofs.Tables.{past, few, known, short, long, absent, member-acts}
 
 -- ---- lists of zeros, and what lies behind the end of a list
 
@@ -32,138 +36,133 @@ zeros (suc n) (suc j) = zeros n j
 max-zeros : (n : ℕ) (f : ℕ → ℕ) → ((j : ℕ) → f j ≡ 0) → 0 ≡ maxBelow n f
 max-zeros n f none = omega (arith, max-least n f 0 (λ j l. omega (arith, none j)))
 
-behind : (l : List ℕ) (n i : ℕ) → n ≤ i → getD (take n l) i 0 ≡ 0
-behind l n i h = List·getD-eq-default (take n l) 0 (omega (arith, length-take n l))
-
-cut-all : (P : ℕ → Type 0) (l : List ℕ) (n : ℕ) → P 0 → ((i : ℕ) → i < n → P (getD l i 0)) → (i : ℕ) → P (getD (take n l) i 0)
-cut-all P l n none some i =
-    by-cases
-    (decLt i n)
-    (λ h. subst P (sym (getD-take n l i 0 h)) (some i h))
-    (λ h. subst P (sym (behind l n i (omega arith))) none)
-
 nothing : (b : Bool) (x : ℕ) → x ≡ 0 → cond b x 0 ≡ 0
 nothing true x e = e
 nothing false x e = refl
 
 -- ---- the search at its root
 
-module _ (durations resources preds : List ℕ) (acts present variant cap : ℕ) (asked : Asked durations resources preds acts present variant cap) where
-  pub tabled : Tabled durations resources preds acts variant cap
-  tabled =
+module _ {x : Variant} {number cap : ℕ} (tabled : Tabled x number) (word : cap < wordValues) {table : List ℕ}
+    (net : Network x number cap table) where
+  abbrev c : HasVariant (tabled .plan) (tabled .term) number
+  c = tabled .chosen
+
+  abbrev held : IsVariant (tabled .plan) (variantAt (tabled .term) number) x
+  held = tabled .held
+
+  duration-in : (i : ℕ) → i < width → durationAt table i ≡ entryIn x (x .duration) i
+  duration-in i l = omega (arith, net .packed i l, known c held i)
+
+  resource-in : (i : ℕ) → i < width → resourceAt table i ≡ entryIn x (x .resource) i
+  resource-in i l = omega (arith, net .packed i l, known c held i)
+
+  -- Past the columns there is nothing, as past the plan's activities.
+  column-past : (l : List ℕ) (i : ℕ) → (i < width → ⊥) → entryIn x l i ≡ 0
+  column-past l i g = past l (x .acts) i (omega (arith, few c held))
+
+  same-problem : problemIn table ≡ problemOf x
+  unfolding problemIn problemOf
+  same-problem = λ k.
       record {
-        few = asked .few;
-        short = asked .short;
-        known = asked .known;
-        sets = asked .sets;
-        cell = asked .cell;
-        word = asked .word;
+        duration =
+            fun-ext
+            (λ i.
+            by-cases
+            (decLt i width)
+            (λ l. ap (_/ packing) (getD-take width table i 0 l) ∙ duration-in i l)
+            (λ l. ap (_/ packing) (past table width i (omega arith)) ∙ sym (column-past (x .duration) i l)))
+            k;
+        resource =
+            fun-ext
+            (λ i.
+            by-cases
+            (decLt i width)
+            (λ l. ap (_% packing) (getD-take width table i 0 l) ∙ resource-in i l)
+            (λ l. ap (_% packing) (past table width i (omega arith)) ∙ sym (column-past (x .resource) i l)))
+            k;
+        preds =
+            fun-ext
+            (λ i.
+            by-cases
+            (decLt i width)
+            (λ l. preds-at table i l ∙ net .befores i l)
+            (λ l. past (drop predsFrom table) width i (omega arith) ∙ sym (column-past (x .preds) i l)))
+            k;
       }
 
-  known : (i : ℕ) → getD (take acts resources) i 0 < devices
-  known = cut-all (λ x. x < devices) resources acts (omega arith) (asked .known)
+  fits : Fit table
+  fits =
+      record {
+        linked = net .linked;
+        short = λ i l. omega (arith, duration-in i (omega arith), short c held i);
+        acts = omega (arith, net .many, few c held);
+        variant = omega (arith, net .number-is, c .below, c .valid .few);
+        cap = omega (arith, net .capped);
+      }
 
-  short : (i : ℕ) → getD (take acts durations) i 0 ≤ longestDuration
-  short = cut-all (λ x. x ≤ longestDuration) durations acts (omega arith) (asked .short)
+  root-timed : Timed table (replicate workCells 0)
+  root-timed =
+      record {
+        durations = λ i l. omega (arith, duration-in i (omega arith), short c held i);
+        times = λ k. omega (arith, zeros workCells k);
+        size = refl;
+      }
 
-  member : (i : ℕ) → has present i ≡ true → i < most
-  member i h =
-      by-cases
-      (decLt i most)
-      (λ l. l)
-      (λ l. absurd (false≢true (sym (has-above most present i (asked .set) (omega arith)) ∙ h)))
+  -- What is absent has no predecessors.
+  alone : (m k : ℕ) → m < most → has (x .present) m ≡ false → has (predsAt table m) k ≡ true → ⊥
+  alone m k l h p =
+      let none : predsAt table m ≡ 0 = net .befores m (omega arith) ∙ absent c held m h in
+      false≢true (sym (ap (λ (y : ℕ). has y k) none ∙ has-none k) ∙ p)
 
-  module _ (table : List ℕ) (net : Network durations resources preds acts variant cap table) where
-    duration-is : (i : ℕ) → i < width → packedAt table i / devices ≡ getD (take acts durations) i 0
-    duration-is i l = omega (arith, net .packed i l, known i)
+  root-at : (cands : ℕ) → Opened table (x .present) cands
+      → AtState table (position (x .present) cands 0 (replicate workCells 0)) (root (x .present))
+  unfolding root isOpen ready
+  root-at cands opened =
+      record {
+        is-left = refl;
+        inside = held .order .small;
+        low = opened .low;
+        frozen = λ i l h. zeros workCells i ∙ sym (zeros width i);
+        free =
+            λ i h. zeros workCells (freeFrom + resourceAt table i)
+            ∙ sym (zeros mostResources (resourceAt table i));
+        candidates =
+            λ i l. opened .found i l ∙ ap (λ (y : ℕ). has (x .present) i && not (meet y (x .present)))
+            (sym (preds-at table i (omega arith)));
+        readied = λ i h.
+            zeros workCells (readyFrom + i)
+            ∙ max-zeros most (λ j. cond (has (problemIn table .preds i) j) (getD (replicate width 0) j 0) 0)
+            (λ j. nothing (has (problemIn table .preds i) j) (getD (replicate width 0) j 0) (zeros width j));
+        last = max-zeros most (λ j. getD (replicate width 0) j 0) (zeros width);
+        long =
+            λ i h. omega (
+              arith,
+              long c held i h,
+              duration-in i
+                  (omega (arith, member-acts c held i (sym (held .order .members i) ∙ h), few c held)),
+            );
+        unfrozen = λ i h. zeros width i;
+        early = λ i. omega (arith, zeros width i, size-le most (x .present));
+        soon = λ r. omega (arith, zeros mostResources r, size-le most (x .present));
+        closed = λ m k l h p. absurd (alone m k l h p);
+        ordered = λ m k l h p. absurd (alone m k l h p);
+        ran = λ i l ne. absurd (ne (zeros width i));
+        ends-wide = refl;
+        avail-wide = refl;
+      }
 
-    pub same-problem : problemOf table ≡ tablesOf durations resources preds acts
-    unfolding problemOf tablesOf
-    same-problem = λ i.
-        record {
-          duration = fun-ext (λ j. durationAt j) i;
-          resource = fun-ext (λ j. resourceAt j) i;
-          preds = fun-ext (λ j. predsIs j) i;
-        }
-      where
-        durationAt : (j : ℕ) → getD (take width table) j 0 / devices ≡ getD (take acts durations) j 0
-        durationAt j =
-            by-cases
-            (decLt j width)
-            (λ l. omega (arith, getD-take width table j 0 l, duration-is j l))
-            (λ l. omega (arith, behind table width j (omega arith), behind durations acts j (omega (arith, asked .few))))
+  pub root-standing : (cands : ℕ) → Opened table (x .present) cands → (cells : List ℕ) → IsTally cells
+      → Standing table (position (x .present) cands 0 (replicate workCells 0)) cells
+  root-standing cands opened cells tally =
+      record { fit = fits; timed = root-timed; tally = tally; state = root (x .present); at = root-at cands opened }
 
-        resourceAt : (j : ℕ) → getD (take width table) j 0 % devices ≡ getD (take acts resources) j 0
-        resourceAt j =
-            by-cases
-            (decLt j width)
-            (λ l. omega (arith, getD-take width table j 0 l, net .packed j l, known j))
-            (λ l. omega (arith, behind table width j (omega arith), behind resources acts j (omega (arith, asked .few))))
-
-        predsIs : (j : ℕ) → getD (take width (drop width table)) j 0 ≡ getD (take acts preds) j 0
-        predsIs j =
-            by-cases
-            (decLt j width)
-            (λ l. preds-at table j l ∙ net .befores j l)
-            (λ l. behind (drop width table) width j (omega arith) ∙ sym (behind preds acts j (omega (arith, asked .few))))
-
-    pub fit : Fit table
-    fit =
-        record {
-          linked = net .linked;
-          short = λ i l. omega (arith, duration-is i (omega arith), short i);
-          acts = omega (arith, net .many, asked .few);
-          variant = omega (arith, net .number, asked .cell);
-          cap = omega (arith, net .capped, asked .word);
-        }
-
-    pub root-timed : Timed table (replicate 80 0)
-    root-timed =
-        record {
-          packed = λ i l. omega (arith, net .packed i (omega arith), known i, short i);
-          times = λ k. omega (arith, zeros 80 k);
-          size = refl;
-        }
-
-    -- What is absent has no predecessors.
-    alone : (m k : ℕ) → m < most → has present m ≡ false → has (predsAt table m) k ≡ true → ⊥
-    alone m k l h p =
-        let none : predsAt table m ≡ 0 = net .befores m (omega arith) ∙ asked .absent m l h in
-        false≢true (sym (ap (λ (x : ℕ). has x k) none ∙ has-none k) ∙ p)
-
-    pub root-at : (cands : ℕ) → Opened table present cands → AtNode table present cands 0 (replicate 80 0) (root present)
-    unfolding root isOpen ready latestEnd
-    root-at cands opened =
-        record {
-          is-left = refl;
-          inside = asked .set;
-          low = opened .low;
-          frozen = λ i l h. zeros 80 i ∙ sym (zeros width i);
-          free = λ i h. zeros 80 (64 + packedAt table i % devices) ∙ sym (zeros devices (packedAt table i % devices));
-          candidates = λ i l. opened .found i l ∙ ap (λ (x : ℕ). has present i && not (meet x present)) (sym (preds-at table i (omega arith)));
-          readied = λ i h.
-              zeros 80 (32 + i) ∙ max-zeros most (λ j. cond (has (problemOf table .preds i) j) (getD (replicate width 0) j 0) 0)
-              (λ j. nothing (has (problemOf table .preds i) j) (getD (replicate width 0) j 0) (zeros width j));
-          last = max-zeros most (λ j. getD (replicate width 0) j 0) (zeros width);
-          long = λ i h. omega (arith, asked .long i h, duration-is i (omega (arith, member i h)));
-          unfrozen = λ i h. zeros width i;
-          early = λ i. omega (arith, zeros width i, size-le most present);
-          soon = λ r. omega (arith, zeros devices r, size-le most present);
-          closed = λ m k l h p. absurd (alone m k l h p);
-          ordered = λ m k l h p. absurd (alone m k l h p);
-          ran = λ i l ne. absurd (ne (zeros width i));
-          ends-wide = refl;
-          avail-wide = refl;
-        }
-
-    -- What the search finds below the root is what was asked for.
-    pub all-found : (tally : Tally) (cells area cells′ area′ : List ℕ) → tallyOf cells ≡ tally
-        → Searched (problemOf table) (settingIn table) (root present) (keptOf cells area) cells′ area′
-        → keptOf cells′ area′ ≡ allSeen (tablesOf durations resources preds acts) (settingOf variant acts cap) present (kept tally area)
-    unfolding allSeen scanned root
-    all-found tally cells area cells′ area′ e searched =
-        searched .kept
-        ∙ ap (λ (p : Problem). allSeen p (settingIn table) present (keptOf cells area)) same-problem
-        ∙ ap (λ (q : Setting). allSeen (tablesOf durations resources preds acts) q present (keptOf cells area))
-        (λ i. record { variant = net .number i; acts = net .many i; cap = net .capped i })
-        ∙ ap (λ (t : Tally). allSeen (tablesOf durations resources preds acts) (settingOf variant acts cap) present (kept t area)) e
+  -- What the search finds below the root is what was asked for.
+  pub all-found : (cands : ℕ) → Opened table (x .present) cands → {k k′ : Kept} {w cells area : List ℕ} → k ≡ k′
+      → Explored table (position (x .present) cands 0 (replicate workCells 0)) k w cells area
+      → keptOf cells area ≡ allSeen x number cap k′
+  unfolding allSeen scanned root
+  all-found cands opened {k} {k′} e explored =
+      explored .searched (root (x .present)) (root-at cands opened) .kept
+      ∙ ap₂ (λ (p : Problem) (k : Kept). foldl (seen p (settingIn table)) k (scanned p (x .present))) same-problem e
+      ∙ ap (λ (q : Setting). foldl (seen (problemOf x) q) k′ (scanOf x))
+      (λ i. record { variant = net .number-is i; acts = net .many i; cap = net .capped i })

@@ -1,5 +1,5 @@
--- What the proofs of the search share: the columns of its table, a candidate and the node below it, the branches of a node,
--- what needs no branch, rows, and the root.
+-- What the proofs of the search share: the columns of its table, a candidate and the state below it, the branches of
+-- a state, what needs no branch, rows, and the root.
 pub mod Columns
 pub mod Parts
 pub mod Candidate

@@ -1,5 +1,5 @@
--- Laws of a node's parts: the greatest end below a bound, a store into the ends, the nearest predecessors, and a node's own
--- numbers in terms of the table.
+-- Laws of a state's parts: the greatest end below a bound, a store into the ends, the nearest predecessors, and a
+-- state's own numbers in terms of the table.
 use Prim.Native.Nat.{ℕ, zero, suc, _-_, _^_, _≤_, _<_, max, min}
 use native.Mathlib.Decide.{ℕ-discrete, decLt, decLe}
 use native.Mathlib.Nat.{le-antisymm}
@@ -12,16 +12,15 @@ use lib.Dec.{eqb}
 use lib.ListN.{length, getD, set}
 use lib.Seq.{getD-set-same, getD-set-other, set-out}
 use borrow.Author.Tests.{eq-eqb, ne-eqb}
-use Rattle.bools.proofs.Bools.{by-bool, true-not-false, both, and-left, and-right, cond-true, cond-false}
-use Rattle.schedule.proofs.Below.{max-term, max-least}
-use Rattle.schedule.specs.Below.{maxBelow}
+use Rattle.base.proofs.Bools.{by-bool, true-not-false, both, and-left, and-right, cond-true, cond-false}
+use Rattle.base.proofs.Below.{max-term, max-least}
+use Rattle.base.specs.Below.{maxBelow}
 use Rattle.sets.proofs.Laws.{has-above, has-without, meet-not}
 use Rattle.sets.specs.Sets.{most, has, meet}
-use Rattle.scan.proofs.Model.{Node, leastBelow, ready, isOpen}
+use Rattle.scan.specs.Model.{State, leastBelow, ready, isOpen, lastEnd}
 use Rattle.network.specs.Network.{predsAt, nearAt, Linked}
-use Rattle.search.specs.Tables.{problemOf}
-use Rattle.search.specs.Seen.{latestEnd}
-use Rattle.choices.specs.Work.{endAt, latestOf}
+use Rattle.search.specs.Tables.{problemIn}
+use Rattle.candidates.specs.Work.{endAt, latestOf}
 use Rattle.search.proofs.Columns.{preds-at}
 
 -- ---- the greatest and the least below n
@@ -47,7 +46,8 @@ least-eq (suc n) f g h = ap₂ min (least-eq n f g (λ i l. h i (omega arith))) 
 -- ---- stores
 
 -- What stands at j after a store is what was stored, or what stood there.
-pub store-either : (P : ℕ → Type 0) (l : List ℕ) (i x j : ℕ) → (j ≡ i → P x) → P (getD l j 0) → P (getD (set l i x) j 0)
+pub store-either : (P : ℕ → Type 0) (l : List ℕ) (i x j : ℕ) → (j ≡ i → P x) → P (getD l j 0)
+    → P (getD (set l i x) j 0)
 store-either P l i x j new old =
     by-cases
     (ℕ-discrete j i)
@@ -58,14 +58,15 @@ store-either P l i x j new old =
     (λ ne. subst P (sym (getD-set-other l i j x 0 ne)) old)
 
 -- An end stored where none was.
-pub latest-set : (ends : List ℕ) (i x : ℕ) → i < most → i < length ends → getD ends i 0 ≡ 0 → latestEnd (set ends i x) ≡ max (latestEnd ends) x
-unfolding latestEnd
+pub latest-set : (ends : List ℕ) (i x : ℕ) → i < most → i < length ends → getD ends i 0 ≡ 0
+    → lastEnd (set ends i x) ≡ max (lastEnd ends) x
 latest-set ends i x l h z =
     let f : ℕ → ℕ = λ j. getD ends j 0 in
     let g : ℕ → ℕ = λ j. getD (set ends i x) j 0 in
     let up : maxBelow most g ≤ max (maxBelow most f) x =
     max-least most g (max (maxBelow most f) x)
-    (λ j m. store-either (λ y. y ≤ max (maxBelow most f) x) ends i x j (λ e. omega arith) (omega (arith, max-term most f j m))) in
+    (λ j m. store-either (λ y. y ≤ max (maxBelow most f) x) ends i x j (λ e. omega arith)
+    (omega (arith, max-term most f j m))) in
     let here : x ≤ maxBelow most g = omega (arith, max-term most g i l, getD-set-same ends i x 0 h) in
     let rest : maxBelow most f ≤ maxBelow most g =
     max-least most f (maxBelow most g)
@@ -87,7 +88,8 @@ module _ (left i : ℕ) (member : has left i ≡ true) where
   pub gone-i : has (left - 2 ^ i) i ≡ false
   gone-i =
       by-bool (has (left - 2 ^ i) i)
-      (λ h. true-not-false (and-right (has left i) (not (eqb i i)) (sym (has-without left i i member) ∙ h)) (ap not (eq-eqb i i refl)))
+      (λ h. true-not-false (and-right (has left i) (not (eqb i i)) (sym (has-without left i i member) ∙ h))
+      (ap not (eq-eqb i i refl)))
       (λ h. h)
 
   pub other : (j : ℕ) → has (left - 2 ^ i) j ≡ true → j ≢ i
@@ -137,19 +139,21 @@ nearest t linked left w ends frozen ordered j l none =
     (λ y. omega (arith, ended k m h, near k m y))
     (λ no′.
     let b = linked .far j k l h no′ in
-    let later = ordered (b .other) k (b .below) (meet-not (predsAt t j) left (b .other) none (b .after)) (b .before) in
+    let later =
+    ordered (b .other) k (b .below) (meet-not (predsAt t j) left (b .other) none (b .after)) (b .before) in
     absurd (omega (arith, later, term (b .other) (b .below) (b .after)))))
     (λ h. omega (arith, cond-false (getD ends k 0) 0 h)))
     (max-some most f))
 
--- ---- a node's numbers in terms of the table
+-- ---- a state's numbers in terms of the table
 
-module _ (t : List ℕ) (s : Node) (j : ℕ) (l : j < most) where
-  pub ready-is : ready (problemOf t) s j ≡ maxBelow most (λ k. cond (has (predsAt t j) k) (getD (s .ends) k 0) 0)
+module _ (t : List ℕ) (s : State) (j : ℕ) (l : j < most) where
+  pub ready-is : ready (problemIn t) s j ≡ maxBelow most (λ k. cond (has (predsAt t j) k) (getD (s .ends) k 0) 0)
   unfolding ready
-  ready-is = ap (λ (set : ℕ). maxBelow most (λ k. cond (has set k) (getD (s .ends) k 0) 0)) (preds-at t j (omega arith))
+  ready-is =
+      ap (λ (set : ℕ). maxBelow most (λ k. cond (has set k) (getD (s .ends) k 0) 0)) (preds-at t j (omega arith))
 
-  pub open-is : (left : ℕ) → s .left ≡ left → isOpen (problemOf t) s j ≡ (has left j && not (meet (predsAt t j) left))
+  pub open-is : (left : ℕ) → s .left ≡ left → isOpen (problemIn t) s j ≡ (has left j && not (meet (predsAt t j) left))
   unfolding isOpen
   open-is left e = ap₂ (λ (x y : ℕ). has x j && not (meet y x)) e (preds-at t j (omega arith))
 

@@ -1,5 +1,5 @@
 -- What is left wants no resource twice: each candidate is frozen as it comes, with the same schedules below.
-use Prim.Native.Nat.{ℕ, zero, suc, _+_, _-_, _/_, _%_, _^_, _≤_, _<_, max}
+use Prim.Native.Nat.{ℕ, zero, suc, _+_, _-_, _^_, _≤_, _<_, max}
 use native.Mathlib.Decide.{ℕ-discrete}
 use native.Mathlib.Omega.{arith}
 use mathlib.Core.Bool.{Bool, true, false, not, _&&_, _||_, and-false, or-false}
@@ -10,68 +10,79 @@ use lib.Dec.{eqb}
 use lib.ListN.{getD, set}
 use lib.Seq.{getD-set-same, getD-set-other}
 use borrow.Author.Tests.{eq-eqb, ne-eqb}
-use Rattle.bools.proofs.Bools.{by-bool, true-not-false, and-left, and-right}
-use Rattle.schedule.proofs.Below.{max-eq}
-use Rattle.schedule.specs.Sessions.{gather}
+use Rattle.base.proofs.Bools.{by-bool, true-not-false, and-left, and-right}
+use Rattle.base.proofs.Below.{max-eq}
+use Rattle.base.specs.Lists.{gather}
 use Rattle.sets.proofs.Laws.{has-none, has-without}
-use Rattle.sets.specs.Sets.{most, has, size}
+use Rattle.sets.specs.Sets.{most, has, size, width}
 use Rattle.timetable.specs.Mark.{places}
-use Rattle.scan.proofs.Model.{Problem, Node, devices, finish, freeze, startOf, starts}
+use Rattle.scan.specs.Model.{Problem, State, finish, freeze, startOf, starts, lastEnd}
+use Rattle.plan.specs.Limits.{mostResources, cellValues}
 use Rattle.scan.proofs.Forced as forced
-use Rattle.members.specs.Lowest.{lowestOf, afterLowest}
-use Rattle.members.proofs.Members.{lowest-is, lowest-has, lowest-below}
-use Rattle.network.specs.Network.{packedAt}
-use Rattle.search.specs.Tables.{problemOf}
-use Rattle.search.specs.Seen.{Setting, Kept, settingIn, keptOf, IsTally, latestEnd, better, rowOf, counted, seen, Searched}
-use Rattle.choices.specs.Work.{freeAt, soonAt, Timed, opens, Released, Apart}
-use Rattle.search.specs.Standing.{Ended, Fit, AtNode, Beside}
+use Rattle.sets.specs.Lowest.{lowestOf, afterLowest}
+use Rattle.sets.proofs.Members.{lowest-is, lowest-has, lowest-below}
+use Rattle.network.specs.Network.{resourceAt}
+use Rattle.search.specs.Tables.{problemIn}
+use Rattle.search.specs.Seen.{Setting, Kept, settingIn, keptOf, IsTally, better, foundRow, counted, seen}
+use Rattle.search.specs.Seen.{seenIn}
+use Rattle.candidates.specs.Work.{freeAt, Timed, opens, Released, Uncontested, readyFrom, freeFrom, finishAt}
+use Rattle.search.specs.Standing.{Fit, Leaf, Position, position, AtState, Standing, Beside, Explored}
 use Rattle.search.proofs.Columns.{duration-at, resource-at}
 use Rattle.search.proofs.Parts.{member-below}
-use Rattle.search.proofs.Child.{all-ended, below, waits, finish-is, finish-early, child, no-release, no-release-of}
+use Rattle.search.proofs.Child.{all-ended, below, waits, finish-is, finish-early, child, no-release}
+use Rattle.search.proofs.Child.{no-release-of}
 use Rattle.search.proofs.Stored.{timed-store, beside-refl, same-end, same-free, same-ready}
 
 -- ---- a schedule is seen by the ends of the activities alone
 
-starts-same : (p : Problem) (n : ℕ) (a b : List ℕ) → ((i : ℕ) → i < n → getD a i 0 ≡ getD b i 0) → starts p n a ≡ starts p n b
+starts-same : (p : Problem) (n : ℕ) (a b : List ℕ) → ((i : ℕ) → i < n → getD a i 0 ≡ getD b i 0)
+    → starts p n a ≡ starts p n b
 unfolding starts gather
 starts-same p zero a b h = refl
 starts-same p (suc n) a b h =
-    ap₂ _++_ (starts-same p n a b (λ i l. h i (omega arith))) (ap (λ (x : ℕ). startOf x (p .duration n) ∷ []) (h n (omega arith)))
+    ap₂ _++_ (starts-same p n a b (λ i l. h i (omega arith)))
+    (ap (λ (x : ℕ). startOf x (p .duration n) ∷ []) (h n (omega arith)))
 
 module _ (a b : List ℕ) (same : (i : ℕ) → i < most → getD a i 0 ≡ getD b i 0) where
-  pub latest-same : latestEnd a ≡ latestEnd b
-  unfolding latestEnd
+  pub latest-same : lastEnd a ≡ lastEnd b
   latest-same = max-eq most (λ i. getD a i 0) (λ i. getD b i 0) same
 
   pub seen-same : (p : Problem) (q : Setting) (k : Kept) → q .acts ≤ places → seen p q k a ≡ seen p q k b
-  unfolding seen counted better rowOf
-  seen-same p q k few = rw (latest-same, starts-same p places a b (λ i l. same i l), starts-same p (q .acts) a b (λ i l. same i (omega arith))) refl
+  unfolding seen counted better foundRow
+  seen-same p q k few =
+      rw (latest-same, starts-same p places a b same, starts-same p (q .acts) a b (λ i l. same i (omega arith))) refl
 
--- ---- nodes of the table
+-- ---- states of the table
 
-module _ (t : List ℕ) (fit : Fit t) (left cands latest : ℕ) (w : List ℕ) (s : Node) (at : AtNode t left cands latest w s) where
-  left-at : (i : ℕ) → has (s .left) i ≡ true → has left i ≡ true
-  left-at i h = ap (λ (x : ℕ). has x i) (sym (at .is-left)) ∙ h
+module _ {t : List ℕ} (fit : Fit t) {x : Position} {s : State} (at : AtState t x s) where
+  left-at : (i : ℕ) → has (s .left) i ≡ true → has (x .left) i ≡ true
+  left-at i h = ap (λ (z : ℕ). has z i) (sym (at .is-left)) ∙ h
 
-  low-at : (i : ℕ) → has left i ≡ true → i < 32
-  low-at i h = omega (arith, member-below most left i (at .inside) h)
+  low-at : (i : ℕ) → has (x .left) i ≡ true → i < width
+  low-at i h = omega (arith, member-below most (x .left) i (at .inside) h)
 
-  bounded : forced.Bounded (problemOf t) s
+  bounded : forced.Bounded (problemIn t) s
   bounded =
       record {
         low = omega (arith, at .is-left, at .inside);
         long = λ i h. omega (arith, duration-at t i (low-at i (left-at i h)), at .long i (left-at i h));
-        short = λ i h. omega (arith, duration-at t i (low-at i (left-at i h)), fit .short i (member-below most left i (at .inside) (left-at i h)));
+        short =
+            λ i h. omega (
+              arith,
+              duration-at t i (low-at i (left-at i h)),
+              fit .short i
+                  (member-below most (x .left) i (at .inside) (left-at i h)),
+            );
         known = known;
-        early = λ i. omega (arith, at .early i, ap (λ (x : ℕ). size x most) (at .is-left));
-        soon = λ r. omega (arith, at .soon r, ap (λ (x : ℕ). size x most) (at .is-left));
+        early = λ i. omega (arith, at .early i, ap (λ (z : ℕ). size z most) (at .is-left));
+        soon = λ r. omega (arith, at .soon r, ap (λ (z : ℕ). size z most) (at .is-left));
       }
     where
-      known : (i : ℕ) → problemOf t .resource i < devices
-      known i = unfold problemOf in omega arith
+      known : (i : ℕ) → problemIn t .resource i < mostResources
+      known i = unfold problemIn in omega arith
 
-  apart-at : Apart t left → forced.Apart (problemOf t) (s .left)
-  unfolding forced.Apart
+  apart-at : Uncontested t (x .left) → forced.NoneShared (problemIn t) (s .left)
+  unfolding forced.NoneShared
   apart-at apart i j hi hj e =
       apart .apart i j (left-at i hi) (left-at j hj)
       (sym (resource-at t i (low-at i (left-at i hi))) ∙ e ∙ resource-at t j (low-at j (left-at j hj)))
@@ -79,190 +90,210 @@ module _ (t : List ℕ) (fit : Fit t) (left cands latest : ℕ) (w : List ℕ) (
   -- ---- nothing more can be frozen
 
   -- All is frozen, and the schedule is seen.
-  module _ (none : left ≡ 0) where
-    ends-at : (i : ℕ) → i < most → getD w i 0 ≡ getD (s .ends) i 0
-    ends-at i l = at .frozen i l (ap (λ (x : ℕ). has x i) none ∙ has-none i)
+  module _ (none : x .left ≡ 0) where
+    ends-at : (i : ℕ) → i < most → getD (x .work) i 0 ≡ getD (s .ends) i 0
+    ends-at i l = at .frozen i l (ap (λ (z : ℕ). has z i) none ∙ has-none i)
 
-    pub last-is : latest ≡ latestEnd w
-    last-is = at .last ∙ sym (latest-same w (s .ends) ends-at)
+    pub last-is : x .latest ≡ lastEnd (x .work)
+    last-is = at .last ∙ sym (latest-same (x .work) (s .ends) ends-at)
 
-    pub leaf-seen : (k : Kept) → seen (problemOf t) (settingIn t) k w ≡ foldl (seen (problemOf t) (settingIn t)) k (forced.allBelow (problemOf t) s)
+    pub leaf-seen : (k : Kept) → seenIn t k (x .work) ≡ foldl (seenIn t) k (forced.allBelow (problemIn t) s)
     unfolding forced.allBelow
     leaf-seen k =
-        seen-same w (s .ends) ends-at (problemOf t) (settingIn t) k (fit .acts)
-        ∙ sym (ap (foldl (seen (problemOf t) (settingIn t)) k) (forced.leaf (problemOf t) s (size (s .left) most) (at .is-left ∙ none)))
+        seen-same (x .work) (s .ends) ends-at (problemIn t) (settingIn t) k (fit .acts)
+        ∙ sym (ap (foldl (seenIn t) k) (forced.leaf (problemIn t) s (size (s .left) most) (at .is-left ∙ none)))
 
   -- What is left cannot be frozen.
-  pub dead-seen : (k : Kept) → cands ≡ 0 → left ≢ 0 → k ≡ foldl (seen (problemOf t) (settingIn t)) k (forced.allBelow (problemOf t) s)
+  pub dead-seen : (k : Kept) → x .cands ≡ 0 → x .left ≢ 0 → k ≡ foldl (seenIn t) k (forced.allBelow (problemIn t) s)
   unfolding forced.allBelow
   dead-seen k none some =
-      sym (ap (foldl (seen (problemOf t) (settingIn t)) k)
-      (forced.dead (problemOf t) s (size (s .left) most) (λ z. some (sym (at .is-left) ∙ z))
-      (λ i l. sym (at .candidates i l) ∙ ap (λ (x : ℕ). has x i) none ∙ has-none i)))
+      sym (ap (foldl (seenIn t) k)
+      (forced.dead (problemIn t) s (size (s .left) most) (λ z. some (sym (at .is-left) ∙ z))
+      (λ i l. sym (at .candidates i l) ∙ ap (λ (z : ℕ). has z i) none ∙ has-none i)))
 
-  -- ---- a candidate is frozen: its end is stored, and what waited for it alone is released
+  -- ---- a candidate is frozen: its ends-at is stored, and what waited for it alone is released
 
-  module _ (timed : Timed t w) (apart : Apart t left) (i : ℕ) (chosen : has cands i ≡ true) (x : ℕ) (end : x ≡ soonAt t w i + packedAt t i / devices) where
-    end-is : x ≡ finish (problemOf t) s i
-    end-is = end ∙ finish-is t fit left cands latest w s at i chosen
+  module _ (timed : Timed t (x .work)) (apart : Uncontested t (x .left)) (i : ℕ) (chosen : has (x .cands) i ≡ true)
+      (end : ℕ) (ends-at : end ≡ finishAt t (x .work) i) where
+    end-is : end ≡ finish (problemIn t) s i
+    end-is = ends-at ∙ finish-is fit at i chosen
 
     inside-is : i < most
-    inside-is = below t fit left cands latest w s at i chosen
+    inside-is = below fit at i chosen
 
-    left-has : has left i ≡ true
-    left-has = waits t fit left cands latest w s at i chosen
+    left-has : has (x .left) i ≡ true
+    left-has = waits fit at i chosen
 
-    pub end-small : x < 2 ^ 16
-    end-small = omega (arith, end-is, finish-early t fit left cands latest w s at i chosen)
+    pub end-small : end < cellValues
+    end-small = omega (arith, end-is, finish-early fit at i chosen)
 
-    pub settle-timed : Timed t (set w i x)
-    settle-timed = timed-store t w i x end-small timed
+    pub settle-timed : Timed t (set (x .work) i end)
+    settle-timed = timed-store t (x .work) i end end-small timed
 
-    ends-other : (j : ℕ) → j ≢ i → getD (set w i x) j 0 ≡ getD w j 0
-    ends-other j ne = getD-set-other w i j x 0 ne
+    ends-other : (j : ℕ) → j ≢ i → getD (set (x .work) i end) j 0 ≡ getD (x .work) j 0
+    ends-other j ne = getD-set-other (x .work) i j end 0 ne
 
-    free-is : (j : ℕ) → has (left - 2 ^ i) j ≡ true
-        → freeAt (set w i x) (packedAt t j % devices) ≡ getD (freeze (problemOf t) s i .avail) (packedAt t j % devices) 0
+    free-is : (j : ℕ) → has (x .left - 2 ^ i) j ≡ true
+        → freeAt (set (x .work) i end) (resourceAt t j) ≡ getD (freeze (problemIn t) s i .avail) (resourceAt t j) 0
     unfolding freeze
     free-is j h =
-        let both : (has left j && not (eqb j i)) ≡ true = sym (has-without left i j left-has) ∙ h in
-        let there : has left j ≡ true = and-left (has left j) (not (eqb j i)) both in
-        let other : j ≢ i = λ e. true-not-false h (has-without left i j left-has ∙ ap (λ (b : Bool). has left j && not b) (eq-eqb j i e) ∙ and-false (has left j)) in
-        ends-other (64 + packedAt t j % devices) (λ e. absurd (omega (arith, inside-is)))
+        let both : (has (x .left) j && not (eqb j i)) ≡ true = sym (has-without (x .left) i j left-has) ∙ h in
+        let there : has (x .left) j ≡ true = and-left (has (x .left) j) (not (eqb j i)) both in
+        let other : j ≢ i =
+        λ e. true-not-false h (has-without (x .left) i j left-has ∙ ap (λ (b : Bool). has (x .left) j && not b)
+        (eq-eqb j i e) ∙ and-false (has (x .left) j)) in
+        ends-other (freeFrom + resourceAt t j) (λ e. absurd (omega (arith, inside-is)))
         ∙ at .free j there
-        ∙ sym (getD-set-other (s .avail) (problemOf t .resource i) (packedAt t j % devices) (finish (problemOf t) s i) 0
+        ∙ sym (getD-set-other (s .avail) (problemIn t .resource i) (resourceAt t j) (finish (problemIn t) s i) 0
         (λ e. other (apart .apart j i there left-has (e ∙ resource-at t i (omega (arith, inside-is))))))
 
-    module _ (w₂ : List ℕ) (next : ℕ) (released : Released t (left - 2 ^ i) (cands - 2 ^ i) i (set w i x) w₂ next) where
-      pub settle-at : AtNode t (left - 2 ^ i) next (max latest x) w₂ (freeze (problemOf t) s i)
+    module _ (w₂ : List ℕ) (next : ℕ)
+        (released : Released t (x .left - 2 ^ i) (x .cands - 2 ^ i) i (set (x .work) i end) w₂ next) where
+      pub settle-at : AtState t (position (x .left - 2 ^ i) next (max (x .latest) end) w₂) (freeze (problemIn t) s i)
       settle-at =
-          subst (λ (y : ℕ). AtNode t (left - 2 ^ i) next (max latest y) w₂ (freeze (problemOf t) s i)) (sym end-is)
-          (child t fit left cands latest w s at i chosen (set w i x) w₂ next
-          (getD-set-same w i x 0 (omega (arith, inside-is, timed .size)) ∙ end-is)
+          subst (λ (y : ℕ). AtState t (position (x .left - 2 ^ i) next (max (x .latest) y) w₂)
+          (freeze (problemIn t) s i)) (sym end-is)
+          (child fit at i chosen (set (x .work) i end) w₂ next
+          (getD-set-same (x .work) i end 0 (omega (arith, inside-is, timed .size)) ∙ end-is)
           (λ j l ne. ends-other j ne)
-          (λ j l. ends-other (32 + j) (λ e. absurd (omega (arith, inside-is))))
+          (λ j l. ends-other (readyFrom + j) (λ e. absurd (omega (arith, inside-is))))
           free-is
           released)
 
-      pub settle-beside : Beside t left cands w w₂
+      pub settle-beside : Beside t x w₂
       settle-beside =
           record {
             timed = released .timed;
-            ends = λ j l h. same-end released j l ∙ ends-other j (λ e. true-not-false (ap (has left) e ∙ left-has) h);
-            done = λ j l h. same-ready released j (no-release t fit left cands latest w s at i chosen j l h) ∙ ends-other (32 + j) (λ e. absurd (omega (arith, inside-is)));
-            candidates = λ j l h. same-ready released j (no-release-of t fit left cands latest w s at i chosen j h) ∙ ends-other (32 + j) (λ e. absurd (omega (arith, inside-is)));
-            free = λ r l. same-free released r ∙ ends-other (64 + r) (λ e. absurd (omega (arith, inside-is)));
+            ends =
+                λ j l h. same-end released j l
+                ∙ ends-other j (λ e. true-not-false (ap (has (x .left)) e ∙ left-has) h);
+            done =
+                λ j l h. same-ready released j (no-release fit at i chosen j l h)
+                ∙ ends-other (readyFrom + j) (λ e. absurd (omega (arith, inside-is)));
+            candidates =
+                λ j l h. same-ready released j (no-release-of fit at i chosen j h)
+                ∙ ends-other (readyFrom + j) (λ e. absurd (omega (arith, inside-is)));
+            free = λ r l. same-free released r ∙ ends-other (freeFrom + r) (λ e. absurd (omega (arith, inside-is)));
           }
 
-      pub settle-same : forced.allBelow (problemOf t) s ≡ forced.allBelow (problemOf t) (freeze (problemOf t) s i)
-      settle-same = forced.forced (problemOf t) s bounded (apart-at apart) i inside-is (sym (at .candidates i inside-is) ∙ chosen)
+      pub settle-same : forced.allBelow (problemIn t) s ≡ forced.allBelow (problemIn t) (freeze (problemIn t) s i)
+      settle-same =
+          forced.forced (problemIn t) s bounded (apart-at apart) i inside-is
+          (sym (at .candidates i inside-is) ∙ chosen)
 
 -- ---- the last one left
 
-module _ (t : List ℕ) (fit : Fit t) (left cands latest : ℕ) (w : List ℕ) (s : Node) (at : AtNode t left cands latest w s)
-    (some : 0 < left) (single : afterLowest left ≡ 0) where
-  only : (i : ℕ) → has left i ≡ true → i ≡ lowestOf left
+module _ {t : List ℕ} (fit : Fit t) {x : Position} {s : State} (at : AtState t x s)
+    (some : 0 < (x .left)) (single : afterLowest (x .left) ≡ 0) where
+  only : (i : ℕ) → has (x .left) i ≡ true → i ≡ lowestOf (x .left)
   only i h =
-      let low = lowest-is left (at .inside) (λ e. absurd (omega arith)) in
+      let low = lowest-is (x .left) (at .inside) (λ e. absurd (omega arith)) in
       by-cases
-      (ℕ-discrete i (lowestOf left))
+      (ℕ-discrete i (lowestOf (x .left)))
       (λ e. e)
       (λ ne.
       true-not-false
-      (has-without left (lowestOf left) i (low .member) ∙ ap₂ (λ (a b : Bool). a && not b) h (ne-eqb i (lowestOf left) ne))
-      (ap (λ (x : ℕ). has x i) (sym (low .others) ∙ single) ∙ has-none i))
+      (has-without (x .left) (lowestOf (x .left)) i (low .member) ∙ ap₂ (λ (a b : Bool). a && not b) h
+      (ne-eqb i (lowestOf (x .left)) ne))
+      (ap (λ (z : ℕ). has z i) (sym (low .others) ∙ single) ∙ has-none i))
 
-  pub single-apart : Apart t left
+  pub single-apart : Uncontested t (x .left)
   single-apart = record { apart = λ i j hi hj e. only i hi ∙ sym (only j hj) }
 
-  module _ (i : ℕ) (chosen : has cands i ≡ true) where
-    pub none-left : left - 2 ^ i ≡ 0
+  module _ (i : ℕ) (chosen : has (x .cands) i ≡ true) where
+    pub none-left : x .left - 2 ^ i ≡ 0
     none-left =
-        let low = lowest-is left (at .inside) (λ e. absurd (omega arith)) in
-        ap (λ (k : ℕ). left - 2 ^ k) (only i (waits t fit left cands latest w s at i chosen)) ∙ sym (low .others) ∙ single
+        let low = lowest-is (x .left) (at .inside) (λ e. absurd (omega arith)) in
+        ap (λ (k : ℕ). (x .left) - 2 ^ k) (only i (waits fit at i chosen)) ∙ sym (low .others) ∙ single
 
-    none-opens : (j : ℕ) → j < most → opens t (left - 2 ^ i) i j ≡ false
+    none-opens : (j : ℕ) → j < most → opens t (x .left - 2 ^ i) i j ≡ false
     none-opens j l =
         by-bool
-        (has left j)
-        (λ y. no-release-of t fit left cands latest w s at i chosen j (ap (has cands) (only j y ∙ sym (only i (waits t fit left cands latest w s at i chosen))) ∙ chosen))
-        (no-release t fit left cands latest w s at i chosen j l)
+        (has (x .left) j)
+        (λ y. no-release-of fit at i chosen j (ap (has (x .cands)) (only j y ∙ sym (only i (waits fit at i chosen)))
+        ∙ chosen))
+        (no-release fit at i chosen j l)
 
-    pub none-released : (w₁ : List ℕ) → Timed t w₁ → Released t (left - 2 ^ i) (cands - 2 ^ i) i w₁ w₁ (cands - 2 ^ i)
+    pub none-released : (w₁ : List ℕ) → Timed t w₁
+        → Released t (x .left - 2 ^ i) (x .cands - 2 ^ i) i w₁ w₁ (x .cands - 2 ^ i)
     none-released w₁ timed =
         record {
           timed = timed;
           low = omega (arith, at .low);
-          found = λ j l. sym (ap (has (cands - 2 ^ i) j ||_) (none-opens j l) ∙ or-false (has (cands - 2 ^ i) j));
+          found =
+              λ j l. sym (ap (has (x .cands - 2 ^ i) j ||_) (none-opens j l) ∙ or-false (has (x .cands - 2 ^ i) j));
           readied = λ j l o. true-not-false o (none-opens j l);
           same = λ k h. refl;
         }
 
 -- ---- the loop that freezes one candidate after the other
 
--- The array stands at a node with the schedules of s below it.
-pub record Reached (t : List ℕ) (rest next last : ℕ) (w : List ℕ) (s : Node) : Type 0 where
-  pub node : Node
-  pub at : AtNode t rest next last w node
-  pub same : forced.allBelow (problemOf t) s ≡ forced.allBelow (problemOf t) node
+-- The search stands at a state with the schedules of s below it.
+pub record Reached (t : List ℕ) (x : Position) (s : State) : Type 0 where
+  pub state : State
+  pub at : AtState t x state
+  pub same : forced.allBelow (problemIn t) s ≡ forced.allBelow (problemIn t) state
 
--- What has been done so far, from the array w₀ on: `rest` is left, and `next` are its candidates.
-pub record Settling (t : List ℕ) (left cands latest : ℕ) (w₀ : List ℕ) (rest next last : ℕ) (w : List ℕ) : Type 0 where
-  pub beside : Beside t left cands w₀ w
-  pub within : (j : ℕ) → has rest j ≡ true → has left j ≡ true
-  pub still : (j : ℕ) → has cands j ≡ true → has rest j ≡ true → has next j ≡ true
-  pub reached : (s : Node) → AtNode t left cands latest w₀ s → Reached t rest next last w s
+-- What has been done so far, from x to y.
+pub record Settling (t : List ℕ) (x y : Position) : Type 0 where
+  pub beside : Beside t x (y .work)
+  pub within : (j : ℕ) → has (y .left) j ≡ true → has (x .left) j ≡ true
+  pub still : (j : ℕ) → has (x .cands) j ≡ true → has (y .left) j ≡ true → has (y .cands) j ≡ true
+  pub reached : (s : State) → AtState t x s → Reached t y s
 
-pub settling-start : (t : List ℕ) (left cands latest : ℕ) (w : List ℕ) → Timed t w → Settling t left cands latest w left cands latest w
-settling-start t left cands latest w timed =
+pub settling-start : (t : List ℕ) (x : Position) → Timed t (x .work) → Settling t x x
+settling-start t x timed =
     record {
-      beside = beside-refl t left cands w timed;
+      beside = beside-refl t x timed;
       within = λ j h. h;
       still = λ j h m. h;
-      reached = λ s at. record { node = s; at = at; same = refl };
+      reached = λ s at. record { state = s; at = at; same = refl };
     }
 
-module _ {t : List ℕ} {left cands latest : ℕ} {w₀ : List ℕ} {rest next last : ℕ} {w : List ℕ} (fit : Fit t) (apart : Apart t left)
-    (first : (s : Node) × AtNode t left cands latest w₀ s) (h : Settling t left cands latest w₀ rest next last w) where
-  pub node-here : Node
-  node-here = h .reached (first .0) (first .1) .node
+module _ {t : List ℕ} {x y : Position} {cells : List ℕ} (start : Standing t x cells) (apart : Uncontested t (x .left))
+    (h : Settling t x y) where
+  pub state-here : State
+  state-here = h .reached (start .state) (start .at) .state
 
-  pub at-here : AtNode t rest next last w node-here
-  unfolding node-here
-  at-here = h .reached (first .0) (first .1) .at
+  pub at-here : AtState t y state-here
+  unfolding state-here
+  at-here = h .reached (start .state) (start .at) .at
 
-  apart-here : Apart t rest
+  apart-here : Uncontested t (y .left)
   apart-here = record { apart = λ i j hi hj e. apart .apart i j (h .within i hi) (h .within j hj) e }
 
-  module _ {i : ℕ} (more : next ≢ 0) (low : i ≡ lowestOf next) where
-    pub chosen-here : has next i ≡ true
-    chosen-here = lowest-has next i (at-here .low) more low
+  module _ {i : ℕ} (more : y .cands ≢ 0) (low : i ≡ lowestOf (y .cands)) where
+    pub chosen-here : has (y .cands) i ≡ true
+    chosen-here = lowest-has (y .cands) i (at-here .low) more low
 
     pub below-here : i < most
-    below-here = lowest-below next i (at-here .low) more low
+    below-here = lowest-below (y .cands) i (at-here .low) more low
 
-    pub left-here : has rest i ≡ true
-    left-here = waits t fit rest next last w node-here at-here i chosen-here
+    pub left-here : has (y .left) i ≡ true
+    left-here = waits (start .fit) at-here i chosen-here
 
     -- Something is left.
-    pub some-here : 0 < rest
+    pub some-here : 0 < y .left
     some-here =
         by-cases
-        (ℕ-discrete rest 0)
+        (ℕ-discrete (y .left) 0)
         (λ e. true-not-false left-here (ap (λ (a : ℕ). has a i) e ∙ has-none i))
         (λ ne. omega arith)
 
-    module _ {x : ℕ} (end : x ≡ soonAt t w i + packedAt t i / devices) where
-      pub small-here : x < 2 ^ 16
-      small-here = end-small t fit rest next last w node-here at-here (h .beside .timed) apart-here i chosen-here x end
+    module _ {end : ℕ} (ends-at : end ≡ finishAt t (y .work) i) where
+      pub small-here : end < cellValues
+      small-here = end-small (start .fit) at-here (h .beside .timed) apart-here i chosen-here end ends-at
 
-      pub timed-here : Timed t (set w i x)
-      timed-here = settle-timed t fit rest next last w node-here at-here (h .beside .timed) apart-here i chosen-here x end
+      pub timed-here : Timed t (set (y .work) i end)
+      timed-here = settle-timed (start .fit) at-here (h .beside .timed) apart-here i chosen-here end ends-at
 
-      turned : (w₂ : List ℕ) (next′ : ℕ) → Released t (rest - 2 ^ i) (next - 2 ^ i) i (set w i x) w₂ next′
-          → Settling t left cands latest w₀ (rest - 2 ^ i) next′ (max last x) w₂
-      turned w₂ next′ released =
-          let turn : Beside t rest next w w₂ = settle-beside t fit rest next last w node-here at-here (h .beside .timed) apart-here i chosen-here x end w₂ next′ released in
+      turned : (w : List ℕ) (next : ℕ)
+          → Released t (y .left - 2 ^ i) (y .cands - 2 ^ i) i (set (y .work) i end) w next
+          → Settling t x (position (y .left - 2 ^ i) next (max (y .latest) end) w)
+      turned w next released =
+          let timed = h .beside .timed in
+          let turn : Beside t y w =
+          settle-beside (start .fit) at-here timed apart-here i chosen-here end ends-at w next released in
           record {
             beside =
                 record {
@@ -270,7 +301,7 @@ module _ {t : List ℕ} {left cands latest : ℕ} {w₀ : List ℕ} {rest next l
                   ends = λ j l m. turn .ends j l (gone j m) ∙ h .beside .ends j l m;
                   done = λ j l m. turn .done j l (gone j m) ∙ h .beside .done j l m;
                   candidates = λ j l m.
-                      by-bool (has rest j) (λ y. turn .candidates j l (h .still j m y)) (λ z. turn .done j l z)
+                      by-bool (has (y .left) j) (λ b. turn .candidates j l (h .still j m b)) (λ b. turn .done j l b)
                       ∙ h .beside .candidates j l m;
                   free = λ r l. turn .free r l ∙ h .beside .free r l;
                 };
@@ -279,84 +310,99 @@ module _ {t : List ℕ} {left cands latest : ℕ} {w₀ : List ℕ} {rest next l
             reached = λ s at.
                 let r = h .reached s at in
                 record {
-                  node = freeze (problemOf t) (r .node) i;
-                  at = settle-at t fit rest next last w (r .node) (r .at) (h .beside .timed) apart-here i chosen-here x end w₂ next′ released;
-                  same = r .same ∙ settle-same t fit rest next last w (r .node) (r .at) (h .beside .timed) apart-here i chosen-here x end w₂ next′ released;
+                  state = freeze (problemIn t) (r .state) i;
+                  at = settle-at (start .fit) (r .at) timed apart-here i chosen-here end ends-at w next released;
+                  same =
+                      r .same
+                      ∙ settle-same (start .fit) (r .at) timed apart-here i chosen-here end ends-at w next released;
                 };
           }
         where
-          gone : (j : ℕ) → has left j ≡ false → has rest j ≡ false
-          gone j m = by-bool (has rest j) (λ y. true-not-false (h .within j y) m) (λ z. z)
+          gone : (j : ℕ) → has (x .left) j ≡ false → has (y .left) j ≡ false
+          gone j m = by-bool (has (y .left) j) (λ b. true-not-false (h .within j b) m) (λ b. b)
 
-          parts : (j : ℕ) → has (rest - 2 ^ i) j ≡ true → (has rest j ≡ true) × (not (eqb j i) ≡ true)
+          parts : (j : ℕ) → has (y .left - 2 ^ i) j ≡ true → (has (y .left) j ≡ true) × (not (eqb j i) ≡ true)
           parts j m =
-              let e : (has rest j && not (eqb j i)) ≡ true = sym (has-without rest i j left-here) ∙ m in
-              (and-left (has rest j) (not (eqb j i)) e, and-right (has rest j) (not (eqb j i)) e)
+              let e : (has (y .left) j && not (eqb j i)) ≡ true = sym (has-without (y .left) i j left-here) ∙ m in
+              (and-left (has (y .left) j) (not (eqb j i)) e, and-right (has (y .left) j) (not (eqb j i)) e)
 
-          found : (j : ℕ) → has rest j ≡ true → not (eqb j i) ≡ true → has next j ≡ true → has next′ j ≡ true
+          found : (j : ℕ) → has (y .left) j ≡ true → not (eqb j i) ≡ true → has (y .cands) j ≡ true
+              → has next j ≡ true
           found j r other c =
-              released .found j (member-below most rest j (at-here .inside) r)
-              ∙ ap (_|| opens t (rest - 2 ^ i) i j) (has-without next i j chosen-here ∙ ap₂ _&&_ c other)
+              released .found j (member-below most (y .left) j (at-here .inside) r)
+              ∙ ap (_|| opens t (y .left - 2 ^ i) i j) (has-without (y .cands) i j chosen-here ∙ ap₂ _&&_ c other)
 
-      pub settling-on : {rest′ after next′ last′ : ℕ} {w₂ : List ℕ} → rest′ ≡ rest - 2 ^ i → after ≡ afterLowest next → last′ ≡ max last x
-          → Released t rest′ after i (set w i x) w₂ next′
-          → Settling t left cands latest w₀ rest′ next′ last′ w₂
-      settling-on {rest′} {after} {next′} {last′} {w₂} fewer rest-of later released =
-          let others : afterLowest next ≡ next - 2 ^ i = lowest-is next (at-here .low) more .others ∙ ap (λ (k : ℕ). next - 2 ^ k) (sym low) in
-          subst₂ (λ (a b : ℕ). Settling t left cands latest w₀ a next′ b w₂) (sym fewer) (sym later)
-          (turned w₂ next′ (subst₂ (λ (a b : ℕ). Released t a b i (set w i x) w₂ next′) fewer (rest-of ∙ others) released))
+      pub settling-on : {rest after next last : ℕ} {w : List ℕ}
+          → rest ≡ y .left - 2 ^ i → after ≡ afterLowest (y .cands) → last ≡ max (y .latest) end
+          → Released t rest after i (set (y .work) i end) w next
+          → Settling t x (position rest next last w)
+      settling-on {rest} {after} {next} {last} {w} fewer rest-of later released =
+          let others : afterLowest (y .cands) ≡ y .cands - 2 ^ i =
+          lowest-is (y .cands) (at-here .low) more .others ∙ ap (λ (k : ℕ). y .cands - 2 ^ k) (sym low) in
+          subst₂ (λ (a b : ℕ). Settling t x (position a next b w)) (sym fewer) (sym later)
+          (turned w next
+          (subst₂ (λ (a b : ℕ). Released t a b i (set (y .work) i end) w next) fewer (rest-of ∙ others) released))
 
   -- Nothing is left: the schedule is seen.
-  module _ (none : rest ≡ 0) where
-    pub settled-ended : Ended t w
-    settled-ended = all-ended t fit rest next last w node-here at-here none (h .beside .timed)
-
-    pub settled-last : last ≡ latestEnd w
-    settled-last = last-is t fit rest next last w node-here at-here none
-
-    pub settled-leaf : {k : Kept} {cells area : List ℕ} → IsTally cells → keptOf cells area ≡ seen (problemOf t) (settingIn t) k w
-        → (s : Node) → AtNode t left cands latest w₀ s → Searched (problemOf t) (settingIn t) s k cells area
-    unfolding forced.allBelow
-    settled-leaf {k} tally e s at =
-        let r = h .reached s at in
+  module _ (none : y .left ≡ 0) where
+    pub settled-leaf : Leaf t (y .work) (y .latest) cells
+    settled-leaf =
         record {
-          tally = tally;
-          kept = e ∙ leaf-seen t fit rest next last w (r .node) (r .at) none k ∙ ap (foldl (seen (problemOf t) (settingIn t)) k) (sym (r .same));
+          ended = all-ended (start .fit) at-here none (h .beside .timed);
+          fit = start .fit;
+          tally = start .tally;
+          last = last-is (start .fit) at-here none;
+        }
+
+    pub settled-seen : {k : Kept} {cells′ area : List ℕ} → IsTally cells′ → keptOf cells′ area ≡ seenIn t k (y .work)
+        → Explored t x k (y .work) cells′ area
+    unfolding forced.allBelow
+    settled-seen {k} tally e =
+        record {
+          beside = h .beside;
+          searched = λ s at.
+              let r = h .reached s at in
+              record {
+                tally = tally;
+                kept = e ∙ leaf-seen (start .fit) (r .at) none k ∙ ap (foldl (seenIn t) k) (sym (r .same));
+              };
         }
 
   -- Something is left and none of it is a candidate: there is no schedule.
-  pub settled-dead : {cells area : List ℕ} → next ≡ 0 → rest ≢ 0 → IsTally cells
-      → (s : Node) → AtNode t left cands latest w₀ s → Searched (problemOf t) (settingIn t) s (keptOf cells area) cells area
+  pub settled-dead : {area : List ℕ} → y .cands ≡ 0 → y .left ≢ 0
+      → Explored t x (keptOf cells area) (y .work) cells area
   unfolding forced.allBelow
-  settled-dead {cells} {area} done some tally s at =
-      let r = h .reached s at in
+  settled-dead {area} done some =
       record {
-        tally = tally;
-        kept = dead-seen t fit rest next last w (r .node) (r .at) (keptOf cells area) done some ∙ ap (foldl (seen (problemOf t) (settingIn t)) (keptOf cells area)) (sym (r .same));
+        beside = h .beside;
+        searched = λ s at.
+            let r = h .reached s at in
+            record {
+              tally = start .tally;
+              kept =
+                  dead-seen (start .fit) (r .at) (keptOf cells area) done some
+                  ∙ ap (foldl (seenIn t) (keptOf cells area)) (sym (r .same));
+            };
       }
 
-pub last-apart : {t : List ℕ} {left cands latest : ℕ} {w : List ℕ} → Fit t → 0 < left → afterLowest left ≡ 0
-    → ((s : Node) × AtNode t left cands latest w s) → Apart t left
-last-apart {t} {left} {cands} {latest} {w} fit some single first = single-apart t fit left cands latest w (first .0) (first .1) some single
-
 -- The last one left is frozen.
-module _ {t : List ℕ} {left cands latest i x : ℕ} {w : List ℕ} (fit : Fit t) (timed : Timed t w) (some : 0 < left) (single : afterLowest left ≡ 0)
-    (first : (s : Node) × AtNode t left cands latest w s) (more : cands ≢ 0) (low : i ≡ lowestOf cands) (end : x ≡ soonAt t w i + packedAt t i / devices) where
-  start : Settling t left cands latest w left cands latest w
-  start = settling-start t left cands latest w timed
+module _ {t : List ℕ} {x : Position} {cells : List ℕ} (start : Standing t x cells) (some : 0 < x .left)
+    (single : afterLowest (x .left) ≡ 0) where
+  pub last-apart : Uncontested t (x .left)
+  last-apart = single-apart (start .fit) (start .at) some single
 
-  apart-last : Apart t left
-  apart-last = last-apart fit some single first
+  from-start : Settling t x x
+  from-start = settling-start t x (start .timed)
 
-  chosen-last : has cands i ≡ true
-  chosen-last = lowest-has cands i (first .1 .low) more low
+  module _ {i end : ℕ} (more : x .cands ≢ 0) (low : i ≡ lowestOf (x .cands))
+      (ends-at : end ≡ finishAt t (x .work) i) where
+    chosen-last : has (x .cands) i ≡ true
+    chosen-last = lowest-has (x .cands) i (start .at .low) more low
 
-  pub last-small : x < 2 ^ 16
-  last-small = small-here fit apart-last first start more low end
-
-  pub settling-last : Settling t left cands latest w 0 (cands - 2 ^ i) (max latest x) (set w i x)
-  settling-last =
-      subst (λ (a : ℕ). Settling t left cands latest w a (cands - 2 ^ i) (max latest x) (set w i x))
-      (none-left t fit left cands latest w (first .0) (first .1) some single i chosen-last)
-      (turned fit apart-last first start more low end (set w i x) (cands - 2 ^ i)
-      (none-released t fit left cands latest w (first .0) (first .1) some single i chosen-last (set w i x) (timed-here fit apart-last first start more low end)))
+    pub settling-last : Settling t x (position 0 (x .cands - 2 ^ i) (max (x .latest) end) (set (x .work) i end))
+    settling-last =
+        subst (λ (a : ℕ). Settling t x (position a (x .cands - 2 ^ i) (max (x .latest) end) (set (x .work) i end)))
+        (none-left (start .fit) (start .at) some single i chosen-last)
+        (turned start last-apart from-start more low ends-at (set (x .work) i end) (x .cands - 2 ^ i)
+        (none-released (start .fit) (start .at) some single i chosen-last (set (x .work) i end)
+        (timed-here start last-apart from-start more low ends-at)))

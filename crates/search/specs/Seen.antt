@@ -1,17 +1,19 @@
 -- What becomes of each schedule that the search finds: it is counted, kept if it ends sooner than the one kept, and
 -- written as a row where the area has room for it.
-use Prim.Native.Nat.{ℕ, suc, _+_, _*_, _^_, _<_}
+use Prim.Native.Nat.{ℕ, _+_, _*_, _<_}
 use mathlib.Core.Bool.{cond}
 use mathlib.Core.List.{List, _∷_, _++_, foldl}
 use mathlib.Core.Path.{_≡_}
 use lib.Dec.{leb, ltb}
 use lib.ListN.{length, getD, take, drop}
-use Rattle.schedule.specs.Below.{maxBelow}
-use Rattle.sets.specs.Sets.{most, size}
-use Rattle.scan.proofs.Model.{Problem, Node, never, starts, leaves, scanned}
+use Rattle.sets.specs.Sets.{size}
+use Rattle.scan.specs.Model.{lastEnd, Problem, never, starts, scanOf, problemOf}
 use Rattle.timetable.specs.Mark.{places, noStarts}
 use Rattle.network.specs.Network.{capOf, variantOf, actsOf}
+use Rattle.search.specs.Tables.{problemIn}
 use Rattle.search.specs.declared.Tally.{Tally}
+use Rattle.plan.specs.Limits.{cellValues}
+use Rattle.variant.specs.declared.Variant.{Variant}
 
 -- The variant's number, the number of the plan's activities, and the cap.
 pub record Setting : Type 0 where
@@ -34,17 +36,32 @@ abbrev pub kept : Tally → List ℕ → Kept
 kept tally area = record { tally = tally; area = area }
 
 -- The working cells hold the count, the least latest end so far, its variant and its starts.
+abbrev pub countCell : ℕ
+countCell = 0
+
+abbrev pub bestEndCell : ℕ
+bestEndCell = 1
+
+abbrev pub bestVariantCell : ℕ
+bestVariantCell = 2
+
+abbrev pub startsFrom : ℕ
+startsFrom = 3
+
+abbrev pub tallyCells : ℕ
+tallyCells = startsFrom + places
+
 pub record IsTally (cells : List ℕ) : Type 0 where
-  pub size : length cells ≡ 3 + places
-  pub starts : (i : ℕ) → i < places → getD cells (3 + i) 0 < 2 ^ 16
+  pub size : length cells ≡ tallyCells
+  pub starts : (i : ℕ) → i < places → getD cells (startsFrom + i) 0 < cellValues
 
 abbrev pub tallyOf : List ℕ → Tally
 tallyOf cells =
     record {
-      count = getD cells 0 0;
-      «best_end» = getD cells 1 0;
-      «best_variant» = getD cells 2 0;
-      best = record { starts = drop 3 cells };
+      count = getD cells countCell 0;
+      «best_end» = getD cells bestEndCell 0;
+      «best_variant» = getD cells bestVariantCell 0;
+      best = record { starts = drop startsFrom cells };
     }
 
 abbrev pub keptOf : List ℕ → List ℕ → Kept
@@ -55,21 +72,19 @@ abbrev pub settingIn : List ℕ → Setting
 settingIn t = settingOf (variantOf t) (actsOf t) (capOf t)
 
 -- The area with a row in its own stretch, or unchanged where that does not fit.
-unfoldable pub placed : List ℕ → ℕ → List ℕ → List ℕ
-placed area at row = cond (leb (at + length row) (length area)) (take at area ++ row ++ drop (at + length row) area) area
+unfoldable pub rowPlaced : List ℕ → ℕ → List ℕ → List ℕ
+rowPlaced area at row =
+    cond (leb (at + length row) (length area)) (take at area ++ row ++ drop (at + length row) area) area
 
-unfoldable pub rowOf : Problem → Setting → List ℕ → List ℕ
-rowOf p q ends = q .variant ∷ starts p (q .acts) ends
-
-unfoldable pub latestEnd : List ℕ → ℕ
-latestEnd ends = maxBelow most λ i. getD ends i 0
+unfoldable pub foundRow : Problem → Setting → List ℕ → List ℕ
+foundRow p q ends = q .variant ∷ starts p (q .acts) ends
 
 unfoldable pub better : Problem → Setting → Tally → List ℕ → Tally
 better p q t ends =
-    cond (ltb (latestEnd ends) (t .«best_end»))
+    cond (ltb (lastEnd ends) (t .«best_end»))
     (record {
       count = t .count + 1;
-      «best_end» = latestEnd ends;
+      «best_end» = lastEnd ends;
       «best_variant» = q .variant;
       best = record { starts = starts p places ends };
     })
@@ -84,18 +99,20 @@ unfoldable pub counted : Problem → Setting → Kept → List ℕ → Kept
 counted p q k ends =
     record {
       tally = better p q (k .tally) ends;
-      area = placed (k .area) (k .tally .count * (q .acts + 1)) (rowOf p q ends);
+      area = rowPlaced (k .area) (k .tally .count * (q .acts + 1)) (foundRow p q ends);
     }
 
 -- Once the count is above the cap nothing more is done.
 unfoldable pub seen : Problem → Setting → Kept → List ℕ → Kept
 seen p q k ends = cond (leb (k .tally .count) (q .cap)) (counted p q k ends) k
 
--- Every schedule of a variant, in the order in which the search finds them.
-unfoldable pub allSeen : Problem → Setting → ℕ → Kept → Kept
-allSeen p q present k = foldl (seen p q) k (scanned p present)
+-- Every schedule of the variant with that number, in the order in which the search finds them.
+unfoldable pub allSeen : Variant → ℕ → ℕ → Kept → Kept
+allSeen x number cap k = foldl (seen (problemOf x) (settingOf number (x .acts) cap)) k (scanOf x)
 
--- The whole of the search below a node: every schedule has been seen, in order.
-pub record Searched (p : Problem) (q : Setting) (s : Node) (k : Kept) (cells : List ℕ) (area : List ℕ) : Type 0 where
-  pub tally : IsTally cells
-  pub kept : keptOf cells area ≡ foldl (seen p q) k (leaves p (suc (size (s .left) most)) s)
+-- The same by the search's table.
+abbrev pub rowIn : List ℕ → List ℕ → List ℕ
+rowIn t = foundRow (problemIn t) (settingIn t)
+
+abbrev pub seenIn : List ℕ → Kept → List ℕ → Kept
+seenIn t = seen (problemIn t) (settingIn t)

@@ -1,64 +1,97 @@
--- The working array of the search as a node of its model. These definitions serve the contracts of private functions alone.
-use Prim.Native.Nat.{ℕ, _+_, _*_, _/_, _%_, _^_, _≤_, _<_}
+-- The working array of the search as a state of its model. These definitions serve the contracts of private functions
+-- alone.
+use Prim.Native.Nat.{ℕ, suc, _+_, _*_, _^_, _≤_, _<_}
 use mathlib.Core.Bool.{true, false}
-use mathlib.Core.List.{List}
+use mathlib.Core.List.{List, foldl}
 use mathlib.Core.Path.{_≡_}
 use lib.ListN.{length, getD}
-use Rattle.plan.specs.Limits.{longestDuration}
-use Rattle.sets.specs.Sets.{most, has, size}
+use Rattle.plan.specs.Limits.{longestDuration, mostResources, cellValues, wordValues}
+use Rattle.sets.specs.Sets.{most, has, size, width}
 use Rattle.timetable.specs.Mark.{places}
-use Rattle.scan.proofs.Model.{Node, width, devices, ready, isOpen}
-use Rattle.network.specs.Network.{packedAt, predsAt, capOf, variantOf, actsOf, Linked}
-use Rattle.choices.specs.Work.{endAt, readyAt, freeAt, Timed}
-use Rattle.search.specs.Tables.{problemOf}
-use Rattle.search.specs.Seen.{settingIn, keptOf, latestEnd, Searched}
+use Rattle.scan.specs.Model.{State, ready, isOpen, leaves, lastEnd}
+use Rattle.network.specs.Network.{durationAt, resourceAt, predsAt, capOf, variantOf, actsOf, Linked}
+use Rattle.candidates.specs.Work.{endAt, readyAt, freeAt, Timed}
+use Rattle.search.specs.Tables.{problemIn}
+use Rattle.search.specs.Seen.{Kept, keptOf, IsTally, seenIn}
 
 -- What has ended has run its duration.
-pub record Ended (t : List ℕ) (w : List ℕ) : Type 0 where
-  pub ran : (i : ℕ) → i < most → (endAt w i ≡ 0 → ⊥) → packedAt t i / devices ≤ endAt w i
+pub record Ended (t w : List ℕ) : Type 0 where
+  pub ran : (i : ℕ) → i < most → (endAt w i ≡ 0 → ⊥) → durationAt t i ≤ endAt w i
   pub timed : Timed t w
 
 -- The table is whole, and its numbers are in range.
 pub record Fit (t : List ℕ) : Type 0 where
   pub linked : Linked t
-  pub short : (i : ℕ) → i < most → packedAt t i / devices ≤ longestDuration
+  pub short : (i : ℕ) → i < most → durationAt t i ≤ longestDuration
   pub acts : actsOf t ≤ places
-  pub variant : variantOf t < 2 ^ 16
-  pub cap : capOf t < 2 ^ 32
+  pub variant : variantOf t < cellValues
+  pub cap : capOf t < wordValues
 
--- The working array stands at the node s. The ends of what is left and the ready times of what is no candidate mean nothing.
-pub record AtNode (t : List ℕ) (left : ℕ) (cands : ℕ) (latest : ℕ) (w : List ℕ) (s : Node) : Type 0 where
-  pub is-left : s .left ≡ left
-  pub inside : left < 2 ^ most
-  pub low : cands < 2 ^ most
-  pub frozen : (i : ℕ) → i < most → has left i ≡ false → endAt w i ≡ getD (s .ends) i 0
-  pub free : (i : ℕ) → has left i ≡ true → freeAt w (packedAt t i % devices) ≡ getD (s .avail) (packedAt t i % devices) 0
-  pub candidates : (i : ℕ) → i < most → has cands i ≡ isOpen (problemOf t) s i
-  pub readied : (i : ℕ) → has cands i ≡ true → readyAt w i ≡ ready (problemOf t) s i
-  pub last : latest ≡ latestEnd (s .ends)
-  pub long : (i : ℕ) → has left i ≡ true → 1 ≤ packedAt t i / devices
-  pub unfrozen : (i : ℕ) → has left i ≡ true → getD (s .ends) i 0 ≡ 0
+-- A schedule is found: the ends in the working array, the latest of them, and the cells of the tally.
+pub record Leaf (t w : List ℕ) (latest : ℕ) (cells : List ℕ) : Type 0 where
+  pub ended : Ended t w
+  pub fit : Fit t
+  pub tally : IsTally cells
+  pub last : latest ≡ lastEnd w
+
+-- Where the search stands: what is left, the candidates of that, the latest end so far, and the working array.
+pub record Position : Type 0 where
+  pub left : ℕ
+  pub cands : ℕ
+  pub latest : ℕ
+  pub work : List ℕ
+
+abbrev pub position : ℕ → ℕ → ℕ → List ℕ → Position
+position left cands latest work = record { left = left; cands = cands; latest = latest; work = work }
+
+-- It stands at the state s. The ends of what is left and the ready times of what is no candidate mean nothing.
+pub record AtState (t : List ℕ) (x : Position) (s : State) : Type 0 where
+  pub is-left : s .left ≡ x .left
+  pub inside : x .left < 2 ^ most
+  pub low : x .cands < 2 ^ most
+  pub frozen : (i : ℕ) → i < most → has (x .left) i ≡ false → endAt (x .work) i ≡ getD (s .ends) i 0
+  pub free : (i : ℕ) → has (x .left) i ≡ true → freeAt (x .work) (resourceAt t i) ≡ getD (s .avail) (resourceAt t i) 0
+  pub candidates : (i : ℕ) → i < most → has (x .cands) i ≡ isOpen (problemIn t) s i
+  pub readied : (i : ℕ) → has (x .cands) i ≡ true → readyAt (x .work) i ≡ ready (problemIn t) s i
+  pub last : x .latest ≡ lastEnd (s .ends)
+  pub long : (i : ℕ) → has (x .left) i ≡ true → 1 ≤ durationAt t i
+  pub unfrozen : (i : ℕ) → has (x .left) i ≡ true → getD (s .ends) i 0 ≡ 0
   -- every end fits, whatever is still to come
-  pub early : (i : ℕ) → getD (s .ends) i 0 + longestDuration * size left most ≤ longestDuration * most
-  pub soon : (r : ℕ) → getD (s .avail) r 0 + longestDuration * size left most ≤ longestDuration * most
+  pub early : (i : ℕ) → getD (s .ends) i 0 + longestDuration * size (x .left) most ≤ longestDuration * most
+  pub soon : (r : ℕ) → getD (s .avail) r 0 + longestDuration * size (x .left) most ≤ longestDuration * most
   -- the predecessors of what is frozen are frozen, and end before it
-  pub closed : (m k : ℕ) → m < most → has left m ≡ false → has (predsAt t m) k ≡ true → has left k ≡ false
-  pub ordered : (m k : ℕ) → m < most → has left m ≡ false → has (predsAt t m) k ≡ true → getD (s .ends) k 0 < getD (s .ends) m 0
-  pub ran : (i : ℕ) → i < most → (getD (s .ends) i 0 ≡ 0 → ⊥) → packedAt t i / devices ≤ getD (s .ends) i 0
+  pub closed :
+      (m k : ℕ) → m < most → has (x .left) m ≡ false → has (predsAt t m) k ≡ true → has (x .left) k ≡ false
+  pub ordered :
+      (m k : ℕ) → m < most → has (x .left) m ≡ false → has (predsAt t m) k ≡ true
+      → getD (s .ends) k 0 < getD (s .ends) m 0
+  pub ran : (i : ℕ) → i < most → (getD (s .ends) i 0 ≡ 0 → ⊥) → durationAt t i ≤ getD (s .ends) i 0
   pub ends-wide : length (s .ends) ≡ width
-  pub avail-wide : length (s .avail) ≡ devices
+  pub avail-wide : length (s .avail) ≡ mostResources
 
--- What the search below a node leaves as it was.
-pub record Beside (t : List ℕ) (left : ℕ) (cands : ℕ) (w : List ℕ) (w′ : List ℕ) : Type 0 where
-  pub timed : Timed t w′
-  pub ends : (i : ℕ) → i < most → has left i ≡ false → endAt w′ i ≡ endAt w i
-  pub done : (i : ℕ) → i < most → has left i ≡ false → readyAt w′ i ≡ readyAt w i
-  pub candidates : (i : ℕ) → i < most → has cands i ≡ true → readyAt w′ i ≡ readyAt w i
-  pub free : (r : ℕ) → r < devices → freeAt w′ r ≡ freeAt w r
+-- What each step of the search starts from.
+pub record Standing (t : List ℕ) (x : Position) (cells : List ℕ) : Type 0 where
+  pub fit : Fit t
+  pub timed : Timed t (x .work)
+  pub tally : IsTally cells
+  pub state : State
+  pub at : AtState t x state
 
--- The search below the node at which the working array stands: what means something there is as it was, and every schedule
--- has been seen, in order.
-abbrev pub Explored : List ℕ → ℕ → ℕ → ℕ → List ℕ → List ℕ → List ℕ → List ℕ → List ℕ → List ℕ → Type 0
-Explored t left cands latest w cells area w′ cells′ area′ =
-    Beside t left cands w w′
-    × ((s : Node) → AtNode t left cands latest w s → Searched (problemOf t) (settingIn t) s (keptOf cells area) cells′ area′)
+-- What the search below a state leaves in the working array as it was.
+pub record Beside (t : List ℕ) (x : Position) (w : List ℕ) : Type 0 where
+  pub timed : Timed t w
+  pub ends : (i : ℕ) → i < most → has (x .left) i ≡ false → endAt w i ≡ endAt (x .work) i
+  pub done : (i : ℕ) → i < most → has (x .left) i ≡ false → readyAt w i ≡ readyAt (x .work) i
+  pub candidates : (i : ℕ) → i < most → has (x .cands) i ≡ true → readyAt w i ≡ readyAt (x .work) i
+  pub free : (r : ℕ) → r < mostResources → freeAt w r ≡ freeAt (x .work) r
+
+-- Every schedule below the state s has been seen, in order.
+pub record Searched (t : List ℕ) (s : State) (k : Kept) (cells area : List ℕ) : Type 0 where
+  pub tally : IsTally cells
+  pub kept : keptOf cells area ≡ foldl (seenIn t) k (leaves (problemIn t) (suc (size (s .left) most)) s)
+
+-- The search below the state at which it stands: what means something there is as it was, and every schedule has been
+-- seen.
+pub record Explored (t : List ℕ) (x : Position) (k : Kept) (w cells area : List ℕ) : Type 0 where
+  pub beside : Beside t x w
+  pub searched : (s : State) → AtState t x s → Searched t s k cells area

@@ -1,53 +1,75 @@
 // What becomes of a schedule that is found.
 use super::Tally;
+use candidates::Work;
 use network::ACTS;
 use network::CAP;
+use network::Table;
 use network::VARIANT;
+use network::duration_of;
 use plan::MOST_ACTS;
 use timetable::Timetable;
 ghost use mathlib.Core.Path.{_≡_};
 ghost use mathlib.Core.List.{_++_};
-ghost use Prim.Native.Nat.{_+_, _*_, _/_, _^_, _≤_, _<_};
-ghost use lib.ListN.{length, getD, take, drop};
+ghost use Prim.Native.Nat.{_+_, _*_, _≤_, _<_};
+ghost use lib.ListN.{length, take, drop};
 ghost use Rattle.timetable.specs.Mark.{places};
-ghost use Rattle.scan.proofs.Model.{startOf, starts};
-ghost use Rattle.network.specs.Network.{capOf, variantOf, actsOf};
-ghost use Rattle.search.specs.Tables.{problemOf};
-ghost use Rattle.search.specs.Seen.{latestEnd, placed, rowOf, settingIn, keptOf, IsTally, tallyOf, better, seen};
-ghost use Rattle.search.specs.Standing.{Ended, Fit};
+ghost use Rattle.scan.specs.Model.{startOf, starts};
+ghost use Rattle.network.specs.Network.{actsOf};
+ghost use Rattle.search.specs.Tables.{problemIn};
+ghost use Rattle.plan.specs.Limits.{cellValues, wordValues};
+ghost use Rattle.search.specs.Seen.{startsFrom, rowPlaced, settingIn, rowIn, keptOf, IsTally, tallyOf, better};
+ghost use Rattle.search.specs.Seen.{seenIn};
+ghost use Rattle.search.specs.Standing.{Ended, Fit, Leaf};
 
-// The cells of a tally: three numbers, and a start for each activity number.
-pub const CELLS: usize = 3 + MOST_ACTS;
+// The cells of a tally: how many schedules were found, the least latest end, its variant, and from STARTS on a start
+// for each activity number.
+pub const COUNT: usize = 0;
 
-fn start_of(end: u32, packed: u32) -> u16
-    requires { ⌜ (end < 2 ^ 16) × ((end ≡ 0 → ⊥) → packed / 16 ≤ end) ⌝ }
-    ensures { λ r. ⌜ r ≡ startOf end (packed / 16) ⌝ }
+pub const BEST_END: usize = 1;
+
+pub const BEST_VARIANT: usize = 2;
+
+pub const STARTS: usize = 3;
+
+pub const TALLY_CELLS: usize = STARTS + MOST_ACTS;
+
+pub type Cells = [u64; TALLY_CELLS];
+
+fn start_of(end: u32, duration: u32) -> u16
+    requires { ⌜ (end < cellValues) × ((end ≡ 0 → ⊥) → duration ≤ end) ⌝ }
+    ensures { λ r. ⌜ r ≡ startOf end duration ⌝ }
 {
     if end == 0 {
         Timetable::MARK
     } else {
-        (end - packed / 16) as u16
+        (end - duration) as u16
     }
 }
 
 // A row is the variant's number and then a start for each of the plan's activities.
-fn write_row(row: &mut [u16], table: &[u32; 131], work: &[u32; 80])
+fn write_row(row: &mut [u16], table: &Table, work: &Work)
     requires { ⌜ Ended (now table) (now work) × Fit (now table) × (actsOf (now table) + 1 ≤ length (now row)) ⌝ }
-    ensures { λ _. ⌜ now (row .exit) ≡ rowOf (problemOf (now (table .entry))) (settingIn (now (table .entry))) (now (work .entry)) ++ drop (actsOf (now (table .entry)) + 1) (now (row .entry)) ⌝ }
+    ensures { λ _.
+        ⌜ now (row .exit)
+        ≡ rowIn (now (table .entry)) (now (work .entry))
+        ++ drop (actsOf (now (table .entry)) + 1) (now (row .entry)) ⌝ }
 {
     let acts = table[ACTS] as usize;
     row[0] = table[VARIANT] as u16;
     let mut i = 0;
     while i < acts {
-        row[1 + i] = start_of(work[i], table[i]);
+        row[1 + i] = start_of(work[i], duration_of(table[i]));
         i += 1;
     }
 }
 
 // The row in its own stretch of the area, where that is long enough.
-fn list(table: &[u32; 131], work: &[u32; 80], count: u64, area: &mut [u16])
-    requires { ⌜ Ended (now table) (now work) × Fit (now table) × (count < 2 ^ 32) ⌝ }
-    ensures { λ _. ⌜ now (area .exit) ≡ placed (now (area .entry)) (count * (actsOf (now (table .entry)) + 1)) (rowOf (problemOf (now (table .entry))) (settingIn (now (table .entry))) (now (work .entry))) ⌝ }
+fn list(table: &Table, work: &Work, count: u64, area: &mut [u16])
+    requires { ⌜ Ended (now table) (now work) × Fit (now table) × (count < wordValues) ⌝ }
+    ensures { λ _.
+        ⌜ now (area .exit)
+        ≡ rowPlaced (now (area .entry)) (count * (actsOf (now (table .entry)) + 1))
+        (rowIn (now (table .entry)) (now (work .entry))) ⌝ }
 {
     let acts = table[ACTS] as usize;
     let at = (count as usize) * (acts + 1);
@@ -56,83 +78,86 @@ fn list(table: &[u32; 131], work: &[u32; 80], count: u64, area: &mut [u16])
     }
 }
 
-// The starts go behind the first three cells.
-fn keep(table: &[u32; 131], work: &[u32; 80], cells: &mut [u64; CELLS])
+// The starts go into their cells.
+fn keep(table: &Table, work: &Work, cells: &mut Cells)
     requires { ⌜ Ended (now table) (now work) × IsTally (now cells) ⌝ }
-    ensures { λ _. ⌜ IsTally (now (cells .exit)) × (now (cells .exit) ≡ take 3 (now (cells .entry)) ++ starts (problemOf (now (table .entry))) places (now (work .entry))) ⌝ }
+    ensures { λ _. ⌜ IsTally (now (cells .exit)) ⌝ }
+    ensures { λ _.
+        ⌜ now (cells .exit)
+        ≡ take startsFrom (now (cells .entry)) ++ starts (problemIn (now (table .entry))) places (now (work .entry)) ⌝ }
 {
     let mut i = 0;
     while i < MOST_ACTS {
-        cells[3 + i] = start_of(work[i], table[i]) as u64;
+        cells[STARTS + i] = start_of(work[i], duration_of(table[i])) as u64;
         i += 1;
     }
 }
 
 // The schedule is counted, and kept where it ends sooner than the one kept.
-fn rank(table: &[u32; 131], work: &[u32; 80], latest: u32, cells: &mut [u64; CELLS])
-    requires { ⌜ Ended (now table) (now work) × Fit (now table) × IsTally (now cells) × (getD (now cells) 0 0 < 2 ^ 32) × (latest ≡ latestEnd (now work)) ⌝ }
+fn rank(table: &Table, work: &Work, latest: u32, cells: &mut Cells)
+    requires { ⌜ Leaf (now table) (now work) latest (now cells) × (tallyOf (now cells) .count < wordValues) ⌝ }
     ensures { λ _. ⌜ IsTally (now (cells .exit)) ⌝ }
-    ensures { λ _. ⌜ tallyOf (now (cells .exit)) ≡ better (problemOf (now (table .entry))) (settingIn (now (table .entry))) (tallyOf (now (cells .entry))) (now (work .entry)) ⌝ }
+    ensures { λ _.
+        ⌜ tallyOf (now (cells .exit))
+        ≡ better (problemIn (now (table .entry))) (settingIn (now (table .entry))) (tallyOf (now (cells .entry)))
+        (now (work .entry)) ⌝ }
 {
-    cells[0] = cells[0] + 1;
+    cells[COUNT] = cells[COUNT] + 1;
     let end = latest as u64;
-    if end < cells[1] {
-        cells[1] = end;
-        cells[2] = table[VARIANT] as u64;
+    if end < cells[BEST_END] {
+        cells[BEST_END] = end;
+        cells[BEST_VARIANT] = table[VARIANT] as u64;
         keep(table, work, cells);
     }
 }
 
 // Once there are more than the cap, nothing more is done.
-pub fn leave(
-    table: &[u32; 131],
-    work: &[u32; 80],
-    latest: u32,
-    cells: &mut [u64; CELLS],
-    area: &mut [u16],
-)
-    requires { ⌜ Ended (now table) (now work) × Fit (now table) × IsTally (now cells) × (latest ≡ latestEnd (now work)) ⌝ }
+pub fn leave(table: &Table, work: &Work, latest: u32, cells: &mut Cells, area: &mut [u16])
+    requires { ⌜ Leaf (now table) (now work) latest (now cells) ⌝ }
     ensures { λ _. ⌜ IsTally (now (cells .exit)) ⌝ }
-    ensures { λ _. ⌜ keptOf (now (cells .exit)) (now (area .exit)) ≡ seen (problemOf (now (table .entry))) (settingIn (now (table .entry))) (keptOf (now (cells .entry)) (now (area .entry))) (now (work .entry)) ⌝ }
+    ensures { λ _.
+        ⌜ keptOf (now (cells .exit)) (now (area .exit))
+        ≡ seenIn (now (table .entry)) (keptOf (now (cells .entry)) (now (area .entry))) (now (work .entry)) ⌝ }
 {
-    if cells[0] <= table[CAP] as u64 {
-        list(table, work, cells[0], area);
+    if cells[COUNT] <= table[CAP] as u64 {
+        list(table, work, cells[COUNT], area);
         rank(table, work, latest, cells);
     }
 }
 
-// The working cells: the count, the latest end, the variant and the starts of a tally.
-pub fn cells_of(tally: Tally) -> [u64; CELLS]
+// The cells that hold a tally.
+pub fn cells_of(tally: Tally) -> Cells
     ensures { λ r. ⌜ IsTally r × (tallyOf r ≡ tally) ⌝ }
 {
-    let mut cells = [0; CELLS];
-    cells[0] = tally.count;
-    cells[1] = tally.best_end;
-    cells[2] = tally.best_variant;
+    let mut cells = [0; TALLY_CELLS];
+    cells[COUNT] = tally.count;
+    cells[BEST_END] = tally.best_end;
+    cells[BEST_VARIANT] = tally.best_variant;
     let best = tally.best;
     let starts = best.starts;
     let mut i = 0;
     while i < MOST_ACTS {
-        cells[3 + i] = starts[i] as u64;
+        cells[STARTS + i] = starts[i] as u64;
         i += 1;
     }
     cells
 }
 
-pub fn tally_of(cells: &[u64; CELLS]) -> Tally
+// The tally that the cells hold.
+pub fn tally_of(cells: &Cells) -> Tally
     requires { ⌜ IsTally (now cells) ⌝ }
     ensures { λ r. ⌜ r ≡ tallyOf (now (cells .entry)) ⌝ }
 {
     let mut best = Timetable::empty();
     let mut i = 0;
     while i < MOST_ACTS {
-        best.starts[i] = cells[3 + i] as u16;
+        best.starts[i] = cells[STARTS + i] as u16;
         i += 1;
     }
     Tally {
-        count: cells[0],
-        best_end: cells[1],
-        best_variant: cells[2],
+        count: cells[COUNT],
+        best_end: cells[BEST_END],
+        best_variant: cells[BEST_VARIANT],
         best,
     }
 }

@@ -1,33 +1,37 @@
 // The search for the active schedules of one variant.
 mod leaf;
 
-use choices::FREE;
-use choices::NEVER;
-use choices::choice_end;
-use choices::contests;
-use choices::earliest_start;
-use choices::later;
-use choices::least_key;
-use choices::opened;
-use choices::release;
-use leaf::CELLS;
+use candidates::FREE;
+use candidates::NEVER;
+use candidates::WORK_CELLS;
+use candidates::Work;
+use candidates::choice_end;
+use candidates::contests;
+use candidates::earliest_end;
+use candidates::later;
+use candidates::least_key;
+use candidates::opened;
+use candidates::release;
+use leaf::COUNT;
+use leaf::Cells;
 use leaf::cells_of;
 use leaf::leave;
 use leaf::tally_of;
-use members::after_lowest;
-use members::lowest;
 use network::CAP;
-use plan::MOST_ACTS;
+use network::Table;
+use network::resource_of;
+use sets::after_lowest;
+use sets::lowest;
 use timetable::Timetable;
+use variant::Variant;
 ghost use mathlib.Core.Path.{_≡_};
-ghost use Prim.Native.Nat.{_^_, _<_};
-ghost use Rattle.sets.specs.Sets.{most};
-ghost use Rattle.scan.proofs.Model.{Node};
-ghost use Rattle.members.specs.Lowest.{afterLowest};
-ghost use Rattle.search.specs.Tables.{tablesOf, Asked};
-ghost use Rattle.search.specs.Seen.{settingOf, noTally, kept, IsTally, allSeen};
-ghost use Rattle.choices.specs.Work.{Timed, Apart};
-ghost use Rattle.search.specs.Standing.{Fit, AtNode, Explored};
+ghost use Prim.Native.Nat.{_<_, _+_};
+ghost use Rattle.sets.specs.Lowest.{afterLowest};
+ghost use Rattle.variant.specs.Tables.{Tabled};
+ghost use Rattle.search.specs.Seen.{noTally, kept, keptOf, allSeen};
+ghost use Rattle.candidates.specs.Work.{Uncontested};
+ghost use Rattle.search.specs.Standing.{position, Standing, Explored};
+ghost use Rattle.variant.specs.declared.Variant.{Variant};
 
 // How many schedules were found, and the one of them that ends first: its latest end, its variant and its starts.
 pub struct Tally {
@@ -54,20 +58,23 @@ impl Tally {
 
 // The last activity left is frozen.
 fn finish(
-    table: &[u32; 131],
+    table: &Table,
     left: u32,
     cands: u32,
     latest: u32,
-    work: &mut [u32; 80],
-    cells: &mut [u64; CELLS],
+    work: &mut Work,
+    cells: &mut Cells,
     area: &mut [u16],
 )
-    requires { ⌜ Fit (now table) × Timed (now table) (now work) × IsTally (now cells) × (0 < left) × (afterLowest left ≡ 0) × ((s : Node) × AtNode (now table) left cands latest (now work) s) ⌝ }
-    ensures { λ _. ⌜ Explored (now (table .entry)) left cands latest (now (work .entry)) (now (cells .entry)) (now (area .entry)) (now (work .exit)) (now (cells .exit)) (now (area .exit)) ⌝ }
+    requires { ⌜ Standing (now table) (position left cands latest (now work)) (now cells)
+        × (0 < left) × (afterLowest left ≡ 0) ⌝ }
+    ensures { λ _.
+        ⌜ Explored (now (table .entry)) (position left cands latest (now (work .entry)))
+        (keptOf (now (cells .entry)) (now (area .entry))) (now (work .exit)) (now (cells .exit)) (now (area .exit)) ⌝ }
 {
     if cands != 0 {
         let i = lowest(cands);
-        let end = earliest_start(table, work, i) + table[i] / 16;
+        let end = earliest_end(table, work, i);
         work[i] = end;
         leave(table, work, later(latest, end), cells, area);
     }
@@ -75,23 +82,26 @@ fn finish(
 
 // No resource is wanted twice by what is left, so that each activity starts as soon as it can.
 fn settle(
-    table: &[u32; 131],
+    table: &Table,
     left: u32,
     cands: u32,
     latest: u32,
-    work: &mut [u32; 80],
-    cells: &mut [u64; CELLS],
+    work: &mut Work,
+    cells: &mut Cells,
     area: &mut [u16],
 )
-    requires { ⌜ Fit (now table) × Timed (now table) (now work) × IsTally (now cells) × Apart (now table) left × ((s : Node) × AtNode (now table) left cands latest (now work) s) ⌝ }
-    ensures { λ _. ⌜ Explored (now (table .entry)) left cands latest (now (work .entry)) (now (cells .entry)) (now (area .entry)) (now (work .exit)) (now (cells .exit)) (now (area .exit)) ⌝ }
+    requires { ⌜ Standing (now table) (position left cands latest (now work)) (now cells)
+        × Uncontested (now table) left ⌝ }
+    ensures { λ _.
+        ⌜ Explored (now (table .entry)) (position left cands latest (now (work .entry)))
+        (keptOf (now (cells .entry)) (now (area .entry))) (now (work .exit)) (now (cells .exit)) (now (area .exit)) ⌝ }
 {
     let mut last = latest;
     let mut rest = left;
     let mut open = cands;
     while open != 0 {
         let i = lowest(open);
-        let end = earliest_start(table, work, i) + table[i] / 16;
+        let end = earliest_end(table, work, i);
         work[i] = end;
         last = later(last, end);
         rest = sets::without(rest, i);
@@ -102,21 +112,24 @@ fn settle(
     }
 }
 
-// Every schedule below a node of the search is counted, and kept or written.
+// Every schedule below a state of the search is counted, and kept or written.
 fn descend(
-    table: &[u32; 131],
+    table: &Table,
     left: u32,
     cands: u32,
     latest: u32,
     known: u32,
-    work: &mut [u32; 80],
-    cells: &mut [u64; CELLS],
+    work: &mut Work,
+    cells: &mut Cells,
     area: &mut [u16],
 )
-    requires { ⌜ Fit (now table) × Timed (now table) (now work) × IsTally (now cells) × (0 < known → 0 < afterLowest left) × ((s : Node) × AtNode (now table) left cands latest (now work) s) ⌝ }
-    ensures { λ _. ⌜ Explored (now (table .entry)) left cands latest (now (work .entry)) (now (cells .entry)) (now (area .entry)) (now (work .exit)) (now (cells .exit)) (now (area .exit)) ⌝ }
+    requires { ⌜ Standing (now table) (position left cands latest (now work)) (now cells)
+        × (0 < known → 0 < afterLowest left) ⌝ }
+    ensures { λ _.
+        ⌜ Explored (now (table .entry)) (position left cands latest (now (work .entry)))
+        (keptOf (now (cells .entry)) (now (area .entry))) (now (work .exit)) (now (cells .exit)) (now (area .exit)) ⌝ }
 {
-    if cells[0] > table[CAP] as u64 {
+    if cells[COUNT] > table[CAP] as u64 {
         return;
     }
     let many = contests(table, left, known);
@@ -131,7 +144,7 @@ fn descend(
         rest = after_lowest(rest);
         let end = choice_end(table, work, key, i);
         if end != NEVER {
-            let r = (table[i] % 16) as usize;
+            let r = resource_of(table[i]);
             let free = work[FREE + r];
             work[i] = end;
             work[FREE + r] = end;
@@ -148,25 +161,17 @@ fn descend(
     }
 }
 
-// Every active schedule of one variant is counted, until there are more than `cap`; the one that ends first of all so
-// far is kept, and each is written as a row where the area is long enough. Of each table the first `acts` entries count.
-pub fn search(
-    durations: &[u16; MOST_ACTS],
-    resources: &[u16; MOST_ACTS],
-    preds: &[u32; MOST_ACTS],
-    acts: usize,
-    present: u32,
-    variant: u64,
-    cap: u64,
-    tally: Tally,
-    area: &mut [u16],
-) -> Tally
-    requires { ⌜ Asked (now durations) (now resources) (now preds) acts present variant cap ⌝ }
-    ensures { λ r. ⌜ kept r (now (area .exit)) ≡ allSeen (tablesOf (now (durations .entry)) (now (resources .entry)) (now (preds .entry)) acts) (settingOf variant acts cap) present (kept tally (now (area .entry))) ⌝ }
+// Every active schedule of the variant with that number is counted, until there are more than `cap`; the one that
+// ends first of all so far is kept, and each is written as a row where the area is long enough.
+pub fn search(x: Variant, number: u32, cap: u32, tally: Tally, area: &mut [u16]) -> Tally
+    requires { ⌜ Tabled x number ⌝ }
+    ensures { λ r.
+        ⌜ kept r (now (area .exit)) ≡ allSeen x number cap (kept tally (now (area .entry))) ⌝ }
 {
-    let table = network::network(durations, resources, preds, acts, variant, cap);
+    let table = network::network(x, number, cap);
+    let present = x.present;
     let cands = opened(&table, present);
-    let mut work = [0; 80];
+    let mut work = [0; WORK_CELLS];
     let mut cells = cells_of(tally);
     descend(&table, present, cands, 0, 0, &mut work, &mut cells, area);
     tally_of(&cells)

@@ -2,17 +2,19 @@
 -- single bit stay below 2 ^ n are `or-lt` and `and-lt` of `lib.Bits` and `pow-lt` of `lib.Pow`.
 use Prim.Native.Nat.{ℕ, zero, suc, _+_, _-_, _*_, _/_, _%_, _^_, _≤_, _<_, suc-le-suc, min, max}
 use mathlib.Core.Path.{_≡_, refl, sym, ap, ap₂, _∙_, subst}
-use mathlib.Core.Bool.{Bool, true, false, not, xor, _&&_, _||_, true≢false, and-false, and-true, or-true, or-false}
+use mathlib.Core.Bool.{Bool, true, false, not, xor, _&&_, _||_, true≢false, and-false, and-true}
 use mathlib.Core.Logic.{_⊎_, inl, inr, ⊎-elim, _≢_, by-cases}
-use native.Mathlib.Nat.{div-one, div-div-eq-div-mul, div-eq-of-lt, pow-suc, mul-comm, mul-mod-left, mul-div-cancel, mod-lt, zero-lt-suc, zero-div, lt-of-lt-of-le, lt-of-le-of-lt, le-refl, le-suc, div-lt-iff-lt-mul, div-add-mod'}
+use native.Mathlib.Nat.{div-one, div-div-eq-div-mul, div-eq-of-lt, pow-suc, mul-comm, mul-mod-left, mul-div-cancel}
+use native.Mathlib.Nat.{mod-lt, zero-lt-suc, zero-div, lt-of-lt-of-le, lt-of-le-of-lt, le-refl, le-suc}
+use native.Mathlib.Nat.{div-lt-iff-lt-mul, div-add-mod'}
 use native.Mathlib.Decide.{ℕ-discrete}
 use native.Mathlib.Omega.{arith}
 use lib.Dec.{lit<, eqb, eqb·suc-suc, eqb·zero-suc, eqb·suc-zero}
 use lib.Arith.{lt-one, digits-div, digits-mod}
 use lib.Pow.{pow-lt, pow-mono}
-use lib.Bits.{bitAnd, bitOr, bitXor, differ, and-step, or-step, xor-step, and-le-l, and-le-r, xor-add-and}
+use lib.Bits.{bitAnd, bitOr, bitXor, and-comm, differ, and-step, or-step, xor-step, and-le-l, and-le-r, xor-add-and}
 use borrow.Author.Tests.{eq-eqb, ne-eqb, eqb-true, eqb-false, not-true}
-use Rattle.sets.specs.Sets.{has, meet, within, size}
+use Rattle.sets.specs.Sets.{has, meet, size}
 
 -- ---- bits, lowest first
 
@@ -25,7 +27,9 @@ has-first a = ap (λ (x : ℕ). eqb (x % 2) 1) (div-one a)
 
 pub has-later : (a i : ℕ) → has a (suc i) ≡ has (a / 2) i
 unfolding has
-has-later a i = ap (λ (x : ℕ). eqb (x % 2) 1) (ap (λ (x : ℕ). a / x) (pow-suc 2 i ∙ mul-comm (2 ^ i) 2) ∙ sym (div-div-eq-div-mul a 2 (2 ^ i)))
+has-later a i =
+    ap (λ (x : ℕ). eqb (x % 2) 1) (ap (λ (x : ℕ). a / x) (pow-suc 2 i ∙ mul-comm (2 ^ i) 2)
+    ∙ sym (div-div-eq-div-mul a 2 (2 ^ i)))
 
 half-lt : (n a : ℕ) → a < 2 ^ suc n → a / 2 < 2 ^ n
 half-lt n a h = div-lt-iff-lt-mul two-pos .1 (subst (λ (x : ℕ). a < x) (pow-suc 2 n) h)
@@ -71,15 +75,20 @@ module _ (op digit : ℕ → ℕ → ℕ) (test : Bool → Bool → Bool)
   has-op a b (suc i) =
       has-later (op a b) i
       ∙ ap (λ (n : ℕ). has (n / 2) i) (step a b)
-      ∙ ap (λ (n : ℕ). has n i) (digits-div (op (a / 2) (b / 2)) (small (a % 2) (b % 2) (mod-lt a two-pos) (mod-lt b two-pos)))
+      ∙ ap (λ (n : ℕ). has n i)
+      (digits-div (op (a / 2) (b / 2)) (small (a % 2) (b % 2) (mod-lt a two-pos) (mod-lt b two-pos)))
       ∙ has-op (a / 2) (b / 2) i
       ∙ sym (ap₂ test (has-later a i) (has-later b i))
 
 pub has-or : (a b i : ℕ) → has (bitOr a b) i ≡ (has a i || has b i)
-has-or = has-op bitOr max _||_ or-step (λ x y p q. omega arith) (by-bits (λ x y. eqb (max x y) 1 ≡ (eqb x 1 || eqb y 1)) refl refl refl refl)
+has-or =
+    has-op bitOr max _||_ or-step (λ x y p q. omega arith)
+    (by-bits (λ x y. eqb (max x y) 1 ≡ (eqb x 1 || eqb y 1)) refl refl refl refl)
 
 pub has-and : (a b i : ℕ) → has (bitAnd a b) i ≡ (has a i && has b i)
-has-and = has-op bitAnd min _&&_ and-step (λ x y p q. omega arith) (by-bits (λ x y. eqb (min x y) 1 ≡ (eqb x 1 && eqb y 1)) refl refl refl refl)
+has-and =
+    has-op bitAnd min _&&_ and-step (λ x y p q. omega arith)
+    (by-bits (λ x y. eqb (min x y) 1 ≡ (eqb x 1 && eqb y 1)) refl refl refl refl)
 
 pub has-xor : (a b i : ℕ) → has (bitXor a b) i ≡ xor (has a i) (has b i)
 unfolding xor
@@ -90,9 +99,12 @@ has-xor =
 pub has-single : (i j : ℕ) → has (2 ^ i) j ≡ eqb j i
 has-single zero zero = has-first 1
 has-single zero (suc j) = has-later 1 j ∙ has-none j ∙ sym (eqb·suc-zero j)
-has-single (suc i) zero = has-first (2 ^ suc i) ∙ ap (λ (x : ℕ). eqb (x % 2) 1) (pow-suc 2 i) ∙ ap (λ (x : ℕ). eqb x 1) (mul-mod-left (2 ^ i) 2) ∙ sym (eqb·zero-suc i)
+has-single (suc i) zero =
+    has-first (2 ^ suc i) ∙ ap (λ (x : ℕ). eqb (x % 2) 1) (pow-suc 2 i)
+    ∙ ap (λ (x : ℕ). eqb x 1) (mul-mod-left (2 ^ i) 2) ∙ sym (eqb·zero-suc i)
 has-single (suc i) (suc j) =
-    has-later (2 ^ suc i) j ∙ ap (λ (x : ℕ). has (x / 2) j) (pow-suc 2 i) ∙ ap (λ (x : ℕ). has x j) (mul-div-cancel (2 ^ i) two-pos)
+    has-later (2 ^ suc i) j ∙ ap (λ (x : ℕ). has (x / 2) j) (pow-suc 2 i)
+    ∙ ap (λ (x : ℕ). has x j) (mul-div-cancel (2 ^ i) two-pos)
     ∙ has-single i j ∙ sym (eqb·suc-suc j i)
 
 -- A set below 2 ^ n has no member from n on.
@@ -104,14 +116,18 @@ has-above n a i h l = ap (λ (x : ℕ). eqb (x % 2) 1) (div-eq-of-lt (lt-of-lt-o
 
 bit-known : (x y : ℕ) → x < 2 → y < 2 → eqb x 1 ≡ eqb y 1 → x ≡ y
 bit-known =
-    by-bits (λ x y. eqb x 1 ≡ eqb y 1 → x ≡ y) (λ e. refl) (λ e. absurd (true≢false (sym e))) (λ e. absurd (true≢false e)) (λ e. refl)
+    by-bits (λ x y. eqb x 1 ≡ eqb y 1 → x ≡ y) (λ e. refl) (λ e. absurd (true≢false (sym e)))
+    (λ e. absurd (true≢false e)) (λ e. refl)
 
 pub same : (n a b : ℕ) → a < 2 ^ n → b < 2 ^ n → ((i : ℕ) → i < n → has a i ≡ has b i) → a ≡ b
 same zero a b p q e = lt-one p ∙ sym (lt-one q)
 same (suc n) a b p q e =
-    let low : a % 2 ≡ b % 2 = bit-known (a % 2) (b % 2) (mod-lt a two-pos) (mod-lt b two-pos) (sym (has-first a) ∙ e 0 (zero-lt-suc n) ∙ has-first b) in
+    let low : a % 2 ≡ b % 2 =
+    bit-known (a % 2) (b % 2) (mod-lt a two-pos) (mod-lt b two-pos) (sym (has-first a) ∙ e 0 (zero-lt-suc n)
+    ∙ has-first b) in
     let high : a / 2 ≡ b / 2 =
-    same n (a / 2) (b / 2) (half-lt n a p) (half-lt n b q) (λ i h. sym (has-later a i) ∙ e (suc i) (suc-le-suc h) ∙ has-later b i) in
+    same n (a / 2) (b / 2) (half-lt n a p) (half-lt n b q) (λ i h. sym (has-later a i) ∙ e (suc i) (suc-le-suc h)
+    ∙ has-later b i) in
     sym (div-add-mod' a 2) ∙ ap₂ (λ (x y : ℕ). x * 2 + y) high low ∙ div-add-mod' b 2
 
 -- ---- a member in common
@@ -135,7 +151,9 @@ parts false y e = absurd (true≢false (sym e))
 pub meet-at : (n a b : ℕ) → a < 2 ^ n → meet a b ≡ true → (i : ℕ) × (i < n) × (has a i ≡ true) × (has b i ≡ true)
 unfolding meet
 meet-at n a b p e =
-    let m = has-some n (bitAnd a b) (lt-of-le-of-lt (and-le-l a b) p) (eqb-false (bitAnd a b) 0 (not-true (eqb (bitAnd a b) 0) e)) in
+    let m =
+    has-some n (bitAnd a b) (lt-of-le-of-lt (and-le-l a b) p)
+    (eqb-false (bitAnd a b) 0 (not-true (eqb (bitAnd a b) 0) e)) in
     let h = parts (has a (m .0)) (has b (m .0)) (sym (has-and a b (m .0)) ∙ m .2) in
     (m .0, m .1, h .0, h .1)
 
@@ -159,20 +177,11 @@ meet-none n a b p f = go (meet a b) refl
     go true e = let m = meet-at n a b p e in absurd (f (m .0) (m .1) (m .2) (m .3))
     go false e = e
 
+pub meet-comm : (a b : ℕ) → meet a b ≡ meet b a
+unfolding meet
+meet-comm a b = ap (λ (x : ℕ). not (eqb x 0)) (and-comm a b)
+
 -- ---- subsets
-
-pub within-has : (a b i : ℕ) → within a b ≡ true → has a i ≡ true → has b i ≡ true
-unfolding within
-within-has a b i e h = parts (has a i) (has b i) (sym (has-and a b i) ∙ ap (λ (x : ℕ). has x i) (eqb-true (bitAnd a b) a e) ∙ h) .1
-
-pub within-of : (n a b : ℕ) → a < 2 ^ n → ((i : ℕ) → i < n → has a i ≡ true → has b i ≡ true) → within a b ≡ true
-unfolding within
-within-of n a b p f =
-    eq-eqb (bitAnd a b) a (same n (bitAnd a b) a (lt-of-le-of-lt (and-le-l a b) p) p (λ i h. has-and a b i ∙ go (has a i) (has b i) (f i h)))
-  where
-    go : (x y : Bool) → (x ≡ true → y ≡ true) → (x && y) ≡ x
-    go true y g = g refl
-    go false y g = refl
 
 -- ---- a member added or taken out
 
@@ -181,8 +190,10 @@ has-with a i j = has-or a (2 ^ i) j ∙ ap (λ (x : Bool). has a j || x) (has-si
 
 and-single : (a i : ℕ) → has a i ≡ true → bitAnd a (2 ^ i) ≡ 2 ^ i
 and-single a i h =
-    same (suc i) (bitAnd a (2 ^ i)) (2 ^ i) (lt-of-le-of-lt (and-le-r a (2 ^ i)) (pow-lt (le-refl (suc i)))) (pow-lt (le-refl (suc i)))
-    (λ j l. has-and a (2 ^ i) j ∙ ap (λ (x : Bool). has a j && x) (has-single i j) ∙ go j (eqb j i) refl ∙ sym (has-single i j))
+    same (suc i) (bitAnd a (2 ^ i)) (2 ^ i) (lt-of-le-of-lt (and-le-r a (2 ^ i)) (pow-lt (le-refl (suc i))))
+    (pow-lt (le-refl (suc i)))
+    (λ j l. has-and a (2 ^ i) j ∙ ap (λ (x : Bool). has a j && x) (has-single i j) ∙ go j (eqb j i) refl
+    ∙ sym (has-single i j))
   where
     go : (j : ℕ) (x : Bool) → eqb j i ≡ x → (has a j && x) ≡ eqb j i
     go j true e = ap (λ (x : Bool). x && true) (ap (has a) (eqb-true j i e) ∙ h) ∙ sym e
@@ -202,7 +213,9 @@ plain false = refl
 
 pub has-without : (a i j : ℕ) → has a i ≡ true → has (a - 2 ^ i) j ≡ (has a j && not (eqb j i))
 unfolding xor
-has-without a i j h = ap (λ (x : ℕ). has x j) (sym (xor-single a i h)) ∙ has-xor a (2 ^ i) j ∙ ap (xor (has a j)) (has-single i j) ∙ go (eqb j i) refl
+has-without a i j h =
+    ap (λ (x : ℕ). has x j) (sym (xor-single a i h)) ∙ has-xor a (2 ^ i) j ∙ ap (xor (has a j)) (has-single i j)
+    ∙ go (eqb j i) refl
   where
     go : (x : Bool) → eqb j i ≡ x → xor (has a j) x ≡ (has a j && not x)
     go true e = ap (λ (x : Bool). xor x true) (ap (has a) (eqb-true j i e) ∙ h) ∙ sym (and-false (has a j))
@@ -213,7 +226,9 @@ has-without a i j h = ap (λ (x : ℕ). has x j) (sym (xor-single a i h)) ∙ ha
 pub size-same : (n a b : ℕ) → ((i : ℕ) → i < n → has a i ≡ has b i) → size a n ≡ size b n
 unfolding size
 size-same zero a b f = refl
-size-same (suc n) a b f = ap₂ (λ (x : Bool) (y : ℕ). elim x [ true ↦ 1 | false ↦ 0 ] + y) (f n (le-refl (suc n))) (size-same n a b (λ i h. f i (lt-of-lt-of-le h (le-suc n))))
+size-same (suc n) a b f =
+    ap₂ (λ (x : Bool) (y : ℕ). elim x [ true ↦ 1 | false ↦ 0 ] + y) (f n (le-refl (suc n)))
+    (size-same n a b (λ i h. f i (lt-of-lt-of-le h (le-suc n))))
 
 pub size-none : (n : ℕ) → size 0 n ≡ 0
 unfolding size
@@ -223,10 +238,13 @@ size-none (suc n) = ap₂ (λ (x : Bool) (y : ℕ). elim x [ true ↦ 1 | false 
 pub size-le : (n a : ℕ) → size a n ≤ n
 unfolding size
 size-le zero a = le-refl 0
-size-le (suc n) a = let rest = size-le n a in elim (has a n) as (λ (x : Bool). elim x [ true ↦ 1 | false ↦ 0 ] + size a n ≤ suc n) [ true ↦ omega arith | false ↦ omega arith ]
+size-le (suc n) a =
+    let rest = size-le n a in elim (has a n) as
+    (λ (x : Bool). elim x [ true ↦ 1 | false ↦ 0 ] + size a n ≤ suc n) [ true ↦ omega arith | false ↦ omega arith ]
 
 -- One member more.
-pub size-more : (n a b i : ℕ) → i < n → has a i ≡ true → has b i ≡ false → ((j : ℕ) → j ≢ i → has a j ≡ has b j) → size a n ≡ suc (size b n)
+pub size-more : (n a b i : ℕ) → i < n → has a i ≡ true → has b i ≡ false → ((j : ℕ) → j ≢ i → has a j ≡ has b j)
+    → size a n ≡ suc (size b n)
 unfolding size
 size-more zero a b i l p q f = absurd (omega arith)
 size-more (suc n) a b i l p q f =
@@ -244,18 +262,6 @@ size-more (suc n) a b i l p q f =
 
 pub size-without : (n a i : ℕ) → i < n → has a i ≡ true → size a n ≡ suc (size (a - 2 ^ i) n)
 size-without n a i l h =
-    size-more n a (a - 2 ^ i) i l h (has-without a i i h ∙ ap (λ (x : Bool). has a i && not x) (eq-eqb i i refl) ∙ and-false (has a i))
+    size-more n a (a - 2 ^ i) i l h (has-without a i i h ∙ ap (λ (x : Bool). has a i && not x) (eq-eqb i i refl)
+    ∙ and-false (has a i))
     (λ j e. sym (has-without a i j h ∙ ap (λ (x : Bool). has a j && not x) (ne-eqb j i e) ∙ and-true (has a j)))
-
-pub size-with : (n a i : ℕ) → i < n → has a i ≡ false → size (bitOr a (2 ^ i)) n ≡ suc (size a n)
-size-with n a i l h =
-    size-more n (bitOr a (2 ^ i)) a i l (has-with a i i ∙ ap (λ (x : Bool). has a i || x) (eq-eqb i i refl) ∙ or-true (has a i)) h
-    (λ j e. has-with a i j ∙ ap (λ (x : Bool). has a j || x) (ne-eqb j i e) ∙ or-false (has a j))
-
-pub size-zero : (n a : ℕ) → a < 2 ^ n → size a n ≡ 0 → a ≡ 0
-size-zero n a p e =
-    by-cases (ℕ-discrete a 0) (λ z. z)
-    (λ z.
-    let m = has-some n a p z in
-    let one = size-without n a (m .0) (m .1) (m .2) in
-    absurd (omega arith))

@@ -1,2 +1,3 @@
--- Sets of activities: the laws of their bits.
+-- Sets of activities: the laws of their bits, and loops over their members.
 pub mod Laws
+pub mod Members

@@ -1,2 +1,3 @@
--- Sets of activities as numbers.
+-- Sets of activities as numbers, and their lowest members.
 pub mod Sets
+pub mod Lowest

@@ -8,16 +8,17 @@ use Rattle.plan.specs.Limits.{mostActs}
 abbrev pub most : ℕ
 most = mostActs
 
+-- The bits of a word. What is kept for each member of a set has a place for each of them, so that any bit is an
+-- index.
+abbrev pub width : ℕ
+width = 32
+
 unfoldable pub has : ℕ → ℕ → Bool
 has set i = eqb (set / 2 ^ i % 2) 1
 
 -- The sets have a member in common.
 unfoldable pub meet : ℕ → ℕ → Bool
 meet a b = not (eqb (bitAnd a b) 0)
-
--- Every member of the first is one of the second.
-unfoldable pub within : ℕ → ℕ → Bool
-within a b = eqb (bitAnd a b) a
 
 -- How many members a set has below n.
 unfoldable pub size : ℕ → ℕ → ℕ

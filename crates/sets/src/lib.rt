@@ -4,6 +4,10 @@ ghost use Prim.Native.Nat.{_-_, _^_, _<_};
 ghost use mathlib.Core.Bool.{true};
 ghost use lib.Bits.{bitAnd, bitOr, bitXor};
 ghost use Rattle.sets.specs.Sets.{most, has, meet};
+ghost use Rattle.sets.specs.Lowest.{lowestOf, afterLowest};
+
+// The bits of a word. What is kept for each member has a place for each of them, so that any bit is an index.
+pub const WIDTH: usize = 32;
 
 // The set of activity i alone.
 pub fn single(i: usize) -> u32
@@ -47,4 +51,19 @@ pub fn minus(a: u32, b: u32) -> u32
     ensures { λ r. ⌜ r ≡ bitXor a (bitAnd a b) ⌝ }
 {
     a ^ (a & b)
+}
+
+// The lowest member.
+pub fn lowest(set: u32) -> usize
+    ensures { λ r. ⌜ r ≡ lowestOf set ⌝ }
+{
+    u32::trailing_zeros(set) as usize
+}
+
+// The set without its lowest member.
+pub fn after_lowest(set: u32) -> u32
+    requires { ⌜ 0 < set ⌝ }
+    ensures { λ r. ⌜ r ≡ afterLowest set ⌝ }
+{
+    set & (set - 1)
 }

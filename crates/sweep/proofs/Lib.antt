@@ -1,3 +1,2 @@
--- One variant's search is posed from its tables and its order, and the variants are swept one by one.
-pub mod Problem
+-- The variants are swept one by one.
 pub mod Turns

@@ -5,53 +5,64 @@ use native.Mathlib.Decide.{decLt}
 use native.Mathlib.Omega.{arith}
 use mathlib.Core.Logic.{by-cases, ⊎-elim}
 use mathlib.Core.Path.{_≡_, refl, ap}
-use mathlib.Core.List.{List, [], _∷_, List·Memᴰ, List·Memᴰ·head, List·Memᴰ·tail, List·Memᴰ·cases-cons, List·Memᴰ·eq-of-singleton}
+use mathlib.Core.List.{List, [], _∷_, List·Memᴰ, List·Memᴰ·head, List·Memᴰ·tail, List·Memᴰ·cases-cons}
+use mathlib.Core.List.{List·Memᴰ·eq-of-singleton}
 use lib.ListN.{length}
 use borrow.Author.Tests.{lt-ltb, le-ltb}
-use Rattle.scan.proofs.Model.{starts}
+use Rattle.scan.specs.Model.{starts, lastEnd}
 use Rattle.timetable.specs.Mark.{places}
 use Rattle.search.specs.declared.Tally.{Tally}
-use Rattle.search.specs.Seen.{Kept, Setting, settingOf, latestEnd, better, counted}
-use Rattle.tally.proofs.Entries.{Entry, step, run, step-counts}
+use Rattle.search.specs.Seen.{Kept, Setting, settingOf, better, counted}
+use Rattle.tally.specs.Entries.{Entry, step, run}
+use Rattle.tally.proofs.Entries.{step-counts}
 use Rattle.tally.proofs.Count.{step-count}
 
 abbrev endOf : Entry → ℕ
-endOf e = latestEnd (e .ends)
+endOf e = lastEnd (e .ends)
 
 -- The tally keeps e.
-pub record Keeps (t : Tally) (e : Entry) : Type 0 where
-  pub end-is : t .«best_end» ≡ latestEnd (e .ends)
+pub record KeepsFound (t : Tally) (e : Entry) : Type 0 where
+  pub end-is : t .«best_end» ≡ lastEnd (e .ends)
   pub variant-is : t .«best_variant» ≡ e .variant
   pub starts-are : t .best .starts ≡ starts (e .problem) places (e .ends)
 
 -- It keeps one of the entries, and none of them ends sooner.
-pub record First (t : Tally) (es : List Entry) : Type 0 where
+pub record FirstFound (t : Tally) (es : List Entry) : Type 0 where
   pub entry : Entry
   pub one-of : List·Memᴰ entry es
-  pub keeps : Keeps t entry
-  pub least : (other : Entry) → List·Memᴰ other es → t .«best_end» ≤ latestEnd (other .ends)
+  pub keeps : KeepsFound t entry
+  pub least : (other : Entry) → List·Memᴰ other es → t .«best_end» ≤ lastEnd (other .ends)
 
-better-sooner : (e : Entry) (q : Setting) (t : Tally) → q .variant ≡ e .variant → endOf e < t .«best_end» → Keeps (better (e .problem) q t (e .ends)) e
+better-sooner : (e : Entry) (q : Setting) (t : Tally) → q .variant ≡ e .variant → endOf e < t .«best_end»
+    → KeepsFound (better (e .problem) q t (e .ends)) e
 unfolding better
-better-sooner e q t v l = rw (lt-ltb (endOf e) (t .«best_end») l) (record { end-is = refl; variant-is = v; starts-are = refl })
+better-sooner e q t v l =
+    rw (lt-ltb (endOf e) (t .«best_end») l) (record { end-is = refl; variant-is = v; starts-are = refl })
 
-better-later : (e other : Entry) (q : Setting) (t : Tally) → t .«best_end» ≤ endOf e → Keeps t other → Keeps (better (e .problem) q t (e .ends)) other
+better-later : (e other : Entry) (q : Setting) (t : Tally) → t .«best_end» ≤ endOf e → KeepsFound t other
+    → KeepsFound (better (e .problem) q t (e .ends)) other
 unfolding better
 better-later e other q t l h =
     rw (le-ltb (endOf e) (t .«best_end») l)
     (record { end-is = h .end-is; variant-is = h .variant-is; starts-are = h .starts-are })
 
 module _ (acts cap : ℕ) where
-  step-sooner : (k : Kept) (e : Entry) → k .tally .count ≤ cap → endOf e < k .tally .«best_end» → Keeps (step acts cap k e .tally) e
+  step-sooner : (k : Kept) (e : Entry) → k .tally .count ≤ cap → endOf e < k .tally .«best_end»
+      → KeepsFound (step acts cap k e .tally) e
   unfolding counted
-  step-sooner k e c l = rw (step-counts acts cap k e c) (better-sooner e (settingOf (e .variant) acts cap) (k .tally) refl l)
+  step-sooner k e c l =
+      rw (step-counts acts cap k e c) (better-sooner e (settingOf (e .variant) acts cap) (k .tally) refl l)
 
-  step-later : (k : Kept) (e other : Entry) → k .tally .count ≤ cap → k .tally .«best_end» ≤ endOf e → Keeps (k .tally) other → Keeps (step acts cap k e .tally) other
+  step-later : (k : Kept) (e other : Entry) → k .tally .count ≤ cap → k .tally .«best_end» ≤ endOf e
+      → KeepsFound (k .tally) other → KeepsFound (step acts cap k e .tally) other
   unfolding counted
-  step-later k e other c l h = rw (step-counts acts cap k e c) (better-later e other (settingOf (e .variant) acts cap) (k .tally) l h)
+  step-later k e other c l h =
+      rw (step-counts acts cap k e c) (better-later e other (settingOf (e .variant) acts cap) (k .tally) l h)
 
   -- From a tally that keeps e: the first of e and those that follow.
-  run-first : (k : Kept) (e : Entry) (es : List Entry) → Keeps (k .tally) e → k .tally .count + length es ≤ suc cap → First (run acts cap k es .tally) (e ∷ es)
+  run-first : (k : Kept) (e : Entry) (es : List Entry) → KeepsFound (k .tally) e
+      → k .tally .count + length es ≤ suc cap
+      → FirstFound (run acts cap k es .tally) (e ∷ es)
   run-first k e [] h c =
       record {
         entry = e;
@@ -65,7 +76,8 @@ module _ (acts cap : ℕ) where
       by-cases
       (decLt (endOf f) (k .tally .«best_end»))
       (λ s.
-      let ih : First (run acts cap next es .tally) (f ∷ es) = run-first next f es (step-sooner k f (omega arith) s) (omega arith) in
+      let ih : FirstFound (run acts cap next es .tally) (f ∷ es) =
+      run-first next f es (step-sooner k f (omega arith) s) (omega arith) in
       record {
         entry = ih .entry;
         one-of = List·Memᴰ·tail (ih .one-of);
@@ -78,7 +90,8 @@ module _ (acts cap : ℕ) where
             (List·Memᴰ·cases-cons m);
       })
       (λ s.
-      let ih : First (run acts cap next es .tally) (e ∷ es) = run-first next e es (step-later k f e (omega arith) (omega arith) h) (omega arith) in
+      let ih : FirstFound (run acts cap next es .tally) (e ∷ es) =
+      run-first next e es (step-later k f e (omega arith) (omega arith) h) (omega arith) in
       let top : run acts cap next es .tally .«best_end» ≤ endOf e = ih .least e (List·Memᴰ·head refl) in
       record {
         entry = ih .entry;
@@ -98,7 +111,8 @@ module _ (acts cap : ℕ) where
 
   -- From a tally whose end is later than every entry's.
   pub best : (k : Kept) (es : List Entry) → 0 < length es → k .tally .count + length es ≤ suc cap
-      → ((e : Entry) → List·Memᴰ e es → latestEnd (e .ends) < k .tally .«best_end») → First (run acts cap k es .tally) es
+      → ((e : Entry) → List·Memᴰ e es → lastEnd (e .ends) < k .tally .«best_end»)
+      → FirstFound (run acts cap k es .tally) es
   best k [] some c above = absurd (not-suc-le-zero some)
   best k (e ∷ es) some c above =
       let one : step acts cap k e .tally .count ≡ k .tally .count + 1 = step-count acts cap k e (omega arith) in

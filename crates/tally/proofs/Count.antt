@@ -8,22 +8,27 @@ use mathlib.Core.List.{List, [], _∷_}
 use lib.Dec.{leb, ltb}
 use lib.ListN.{length}
 use borrow.Author.Tests.{lt-leb}
-use Rattle.bools.proofs.Bools.{by-bool}
-use Rattle.scan.proofs.Model.{Problem}
+use Rattle.base.proofs.Bools.{by-bool}
+use Rattle.scan.specs.Model.{Problem, lastEnd}
 use Rattle.search.specs.declared.Tally.{Tally}
-use Rattle.search.specs.Seen.{Kept, Setting, latestEnd, better, counted}
-use Rattle.tally.proofs.Entries.{Entry, step, run, step-counts, stays}
+use Rattle.search.specs.Seen.{Kept, Setting, better, counted}
+use Rattle.tally.specs.Entries.{Entry, step, run}
+use Rattle.tally.proofs.Entries.{step-counts, stays}
 
 better-count : (p : Problem) (q : Setting) (t : Tally) (ends : List ℕ) → better p q t ends .count ≡ t .count + 1
 unfolding better
-better-count p q t ends = by-bool (ltb (latestEnd ends) (t .«best_end»)) (λ y. rw y) (λ z. rw z)
+better-count p q t ends = by-bool (ltb (lastEnd ends) (t .«best_end»)) (λ y. rw y) (λ z. rw z)
 
 module _ (acts cap : ℕ) where
-  pub step-count : (k : Kept) (e : Entry) → k .tally .count ≤ cap → step acts cap k e .tally .count ≡ k .tally .count + 1
+  pub step-count : (k : Kept) (e : Entry) → k .tally .count ≤ cap
+      → step acts cap k e .tally .count ≡ k .tally .count + 1
   unfolding counted
-  step-count k e l = ap (λ (x : Kept). x .tally .count) (step-counts acts cap k e l) ∙ better-count (e .problem) _ (k .tally) (e .ends)
+  step-count k e l =
+      ap (λ (x : Kept). x .tally .count) (step-counts acts cap k e l)
+      ∙ better-count (e .problem) _ (k .tally) (e .ends)
 
-  pub count-from : (k : Kept) (es : List Entry) → k .tally .count ≤ suc cap → run acts cap k es .tally .count ≡ min (k .tally .count + length es) (suc cap)
+  pub count-from : (k : Kept) (es : List Entry) → k .tally .count ≤ suc cap
+      → run acts cap k es .tally .count ≡ min (k .tally .count + length es) (suc cap)
   count-from k [] l = omega arith
   count-from k (e ∷ es) l =
       by-cases

@@ -4,19 +4,21 @@ use mathlib.Core.Bool.{true, false≢true, and-eq-true-iff}
 use mathlib.Core.List.{List, [], _∷_, map}
 use mathlib.Core.Path.{_≡_, refl, sym, ap₂, _∙_}
 use native.Mathlib.Decide.{decLe}
-use native.Mathlib.Nat.{zero-mul, suc-mul, mul-zero, mul-comm, one-le-mul, le-mul-of-pos-right, min-eq-left, min-eq-right}
+use native.Mathlib.Nat.{zero-mul, suc-mul, mul-zero, mul-comm, one-le-mul, le-mul-of-pos-right, min-eq-left}
+use native.Mathlib.Nat.{min-eq-right}
 use native.Mathlib.Omega.{arith}
 use lib.Dec.{ltb}
 use lib.ListN.{length, length-append, length-map}
 use Rattle.term.specs.Term.{Term, Forest, act, seq, pll, xor, nil, cons, size}
 use Rattle.term.specs.Variants.{paired, variants, combinations, alternatives, variantCount}
-use Rattle.term.proofs.Model.{count, product, total, full, fullAll}
+use Rattle.term.specs.Model.{count, product, total, full, fullAll}
 
 length-paired : (ts : List Term) (fs : List Forest) → length (paired ts fs) ≡ length ts * length fs
 unfolding paired
 length-paired [] fs = sym (zero-mul (length fs))
 length-paired (t ∷ ts) fs =
-    length-append (map (cons t) fs) (paired ts fs) ∙ rw (length-map fs (cons t), length-paired ts fs, suc-mul (length ts) (length fs)) (omega arith)
+    length-append (map (cons t) fs) (paired ts fs)
+    ∙ rw (length-map fs (cons t), length-paired ts fs, suc-mul (length ts) (length fs)) (omega arith)
 
 mutual
   unfolding variants count
@@ -29,11 +31,13 @@ mutual
 
   pub length-combinations : (f : Forest) → length (combinations f) ≡ product f
   length-combinations nil = refl
-  length-combinations (cons t f) = length-paired (variants t) (combinations f) ∙ ap₂ _*_ (length-variants t) (length-combinations f)
+  length-combinations (cons t f) =
+      length-paired (variants t) (combinations f) ∙ ap₂ _*_ (length-variants t) (length-combinations f)
 
   pub length-alternatives : (f : Forest) → length (alternatives f) ≡ total f
   length-alternatives nil = refl
-  length-alternatives (cons t f) = length-append (variants t) (alternatives f) ∙ ap₂ _+_ (length-variants t) (length-alternatives f)
+  length-alternatives (cons t f) =
+      length-append (variants t) (alternatives f) ∙ ap₂ _+_ (length-variants t) (length-alternatives f)
 
 pub variantCount-count : (t : Term) → variantCount t ≡ count t
 unfolding variantCount
@@ -48,11 +52,17 @@ module _ (c : ℕ) where
         | yes h ↦ rw (min-eq-left h)
         | no h ↦
             let above : c ≤ a = omega arith in
-            rw (min-eq-right above) (omega (arith, le-mul-of-pos-right {m = suc b} a (omega arith), le-mul-of-pos-right {m = suc b} c (omega arith)))
+            rw (min-eq-right above)
+            (omega (
+              arith,
+              le-mul-of-pos-right {m = suc b} a (omega arith),
+              le-mul-of-pos-right {m = suc b} c (omega arith),
+            ))
       ]
 
   pub capped-product : (a b : ℕ) → min (a * b) c ≡ min (min a c * min b c) c
-  capped-product a b = capped-times a b ∙ rw (mul-comm (min a c) b) (capped-times b (min a c) ∙ rw (mul-comm (min b c) (min a c)))
+  capped-product a b =
+      capped-times a b ∙ rw (mul-comm (min a c) b) (capped-times b (min a c) ∙ rw (mul-comm (min b c) (min a c)))
 
   pub capped-sum : (a b : ℕ) → min (a + b) c ≡ min (min a c + min b c) c
   capped-sum a b = omega arith

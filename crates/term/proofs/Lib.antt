@@ -1,5 +1,4 @@
 -- Terms: what the definitions imply.
-pub mod Model
 pub mod Reading
 pub mod Counting
 pub mod SomeOf

@@ -1,18 +1,22 @@
--- How nodes are read as a term. A term is the only one that its nodes begin with, `termOf` finds exactly that term, and
--- groups that have children make a full term.
+-- How nodes are read as a term. A term is the only one that its nodes begin with, `termOf` finds exactly that term,
+-- and groups that have children make a full term.
 use Prim.Native.Nat.{ℕ, zero, suc, _≤_}
-use mathlib.Core.Bool.{Bool, true, false, _&&_, not, false≢true, and-assoc, and-eq-true-iff}
-use mathlib.Core.List.{List, [], _∷_, _++_, append-assoc, append-nil, head-eq-of-cons-eq, tail-eq-of-cons-eq, cons≢nil}
+use mathlib.Core.Bool.{Bool, true, false, _&&_, not, false≢true, and-eq-true-iff}
+use mathlib.Core.List.{List, [], _∷_, _++_, append-assoc, append-nil, head-eq-of-cons-eq, tail-eq-of-cons-eq}
+use mathlib.Core.List.{cons≢nil}
 use mathlib.Core.Option.{Option, none, some, Option·none-ne-some, Option·some-injective}
 use mathlib.Core.Path.{_≡_, refl, sym, ap, ap₂, _∙_, subst}
 use native.Mathlib.Omega.{arith}
 use lib.Dec.{T, T-not, leb, ltb, eqb, eqb-refl}
 use borrow.Author.Tests.{leb-true, le-leb, lt-ltb}
 use Rattle.plan.specs.Limits.{isChildCount}
-use Rattle.plan.specs.Plan.{Node, letterOf, isNode, every}
+use Rattle.plan.specs.Plan.{Node, letterOf, isNode}
+use Rattle.base.specs.Lists.{every}
 use Rattle.plan.specs.Plan
-use Rattle.term.specs.Term.{Term, Forest, act, seq, pll, xor, nil, cons, size, nodes, nodesOfAll, firsts, others, group, place, forest, single, termOf}
-use Rattle.term.proofs.Model.{full, fullAll}
+use Rattle.term.specs.Term.{Term, Forest, act, seq, pll, xor, nil, cons, size, nodes, nodesOfAll, firsts}
+use Rattle.term.specs.Term.{others, group, place, forest, single, termOf}
+use Rattle.term.specs.Model.{full, fullAll, NoTerm, NoForest, childrenOf}
+use Rattle.base.proofs.Every.{every-append}
 
 -- Nodes of two letters never begin one list.
 unlike : {m n : Node} {xs ys : List Node} → m ∷ xs ≡ n ∷ ys → T (not (eqb (letterOf m) (letterOf n))) → ⊥
@@ -41,12 +45,15 @@ mutual
   unique (xor f) (pll g) r s e = absurd (unlike e tt)
   unique (xor f) (xor g) r s e = let (p, q) = uniqueAll f g r s (cc) (cc) in (ap xor p, q)
 
-  pub uniqueAll : (f g : Forest) (r s : List Node) → size f ≡ size g → nodesOfAll f ++ r ≡ nodesOfAll g ++ s → (f ≡ g) × (r ≡ s)
+  pub uniqueAll : (f g : Forest) (r s : List Node) → size f ≡ size g → nodesOfAll f ++ r ≡ nodesOfAll g ++ s
+      → (f ≡ g) × (r ≡ s)
   uniqueAll nil nil r s k e = (refl, e)
   uniqueAll nil (cons u g) r s k e = absurd (omega arith)
   uniqueAll (cons t f) nil r s k e = absurd (omega arith)
   uniqueAll (cons t f) (cons u g) r s k e =
-      let (p, e′) = unique t u (nodesOfAll f ++ r) (nodesOfAll g ++ s) (sym (append-assoc (nodes t) (nodesOfAll f) r) ∙ e ∙ append-assoc (nodes u) (nodesOfAll g) s) in
+      let (p, e′) =
+      unique t u (nodesOfAll f ++ r) (nodesOfAll g ++ s)
+      (sym (append-assoc (nodes t) (nodesOfAll f) r) ∙ e ∙ append-assoc (nodes u) (nodesOfAll g) s) in
       let (q, d) = uniqueAll f g r s (omega arith) e′ in
       (ap₂ cons p q, d)
 
@@ -74,13 +81,16 @@ others-join (cons t f) g = others-join f g
 abbrev grouping : (Forest → Term) → ℕ → Forest → Bool → Option Forest
 grouping make k f b = elim b [ true ↦ some (cons (make (firsts k f)) (others k f)) | false ↦ none ]
 
-group-takes : (make : Forest → Term) (k : ℕ) (f : Forest) → k ≤ size f → group make k f ≡ some (cons (make (firsts k f)) (others k f))
+group-takes : (make : Forest → Term) (k : ℕ) (f : Forest) → k ≤ size f
+    → group make k f ≡ some (cons (make (firsts k f)) (others k f))
 group-takes make k f h = ap (grouping make k f) (le-leb k (size f) h)
 
-group-took : (make : Forest → Term) (k : ℕ) (f g : Forest) → group make k f ≡ some g → (k ≤ size f) × (g ≡ cons (make (firsts k f)) (others k f))
+group-took : (make : Forest → Term) (k : ℕ) (f g : Forest) → group make k f ≡ some g
+    → (k ≤ size f) × (g ≡ cons (make (firsts k f)) (others k f))
 group-took make k f g e = go (leb k (size f)) refl e
   where
-    go : (b : Bool) → leb k (size f) ≡ b → grouping make k f b ≡ some g → (k ≤ size f) × (g ≡ cons (make (firsts k f)) (others k f))
+    go : (b : Bool) → leb k (size f) ≡ b → grouping make k f b ≡ some g
+        → (k ≤ size f) × (g ≡ cons (make (firsts k f)) (others k f))
     go true h e = (leb-true k (size f) h, cc)
     go false h e = absurd (Option·none-ne-some g e)
 
@@ -90,28 +100,31 @@ grouped make f g = group-takes make (size f) (join f g) (size-join f g) ∙ rw (
 mutual
   unfolding nodes forest place
 
-  pub forest-nodes : (t : Term) (ns : List Node) (g : Forest) → forest ns ≡ some g → forest (nodes t ++ ns) ≡ some (cons t g)
+  pub forest-nodes : (t : Term) (ns : List Node) (g : Forest) → forest ns ≡ some g
+      → forest (nodes t ++ ns) ≡ some (cons t g)
   forest-nodes (act i) ns g e = rw e
   forest-nodes (seq f) ns g e = rw (forest-all f ns g e) (grouped seq f g)
   forest-nodes (pll f) ns g e = rw (forest-all f ns g e) (grouped pll f g)
   forest-nodes (xor f) ns g e = rw (forest-all f ns g e) (grouped xor f g)
 
-  pub forest-all : (f : Forest) (ns : List Node) (g : Forest) → forest ns ≡ some g → forest (nodesOfAll f ++ ns) ≡ some (join f g)
+  pub forest-all : (f : Forest) (ns : List Node) (g : Forest) → forest ns ≡ some g
+      → forest (nodesOfAll f ++ ns) ≡ some (join f g)
   forest-all nil ns g e = e
-  forest-all (cons t f) ns g e = rw append-assoc (forest-nodes t (nodesOfAll f ++ ns) (join f g) (forest-all f ns g e))
-
-join-nil : (f : Forest) → join f nil ≡ f
-join-nil nil = refl
-join-nil (cons t f) = ap (cons t) (join-nil f)
+  forest-all (cons t f) ns g e =
+      rw append-assoc (forest-nodes t (nodesOfAll f ++ ns) (join f g) (forest-all f ns g e))
 
 -- What a group took is its nodes again.
-taken : (k : ℕ) (f : Forest) → k ≤ size f → (size (firsts k f) ≡ k) × (nodesOfAll (firsts k f) ++ nodesOfAll (others k f) ≡ nodesOfAll f)
+taken : (k : ℕ) (f : Forest) → k ≤ size f
+    → (size (firsts k f) ≡ k) × (nodesOfAll (firsts k f) ++ nodesOfAll (others k f) ≡ nodesOfAll f)
 unfolding size firsts others nodes
 taken zero f h = (refl, refl)
 taken (suc k) nil h = absurd (omega arith)
 taken (suc k) (cons t f) h =
-    let (n, e) = taken k f (omega arith) in
-    (ap suc n, append-assoc (nodes t) (nodesOfAll (firsts k f)) (nodesOfAll (others k f)) ∙ ap (λ (l : List Node). nodes t ++ l) e)
+    let (n, e) = taken k f (omega arith) in (
+      ap suc n,
+      append-assoc (nodes t) (nodesOfAll (firsts k f)) (nodesOfAll (others k f))
+          ∙ ap (λ (l : List Node). nodes t ++ l) e,
+    )
 
 group-placed : (make : Forest → Term) (n : ℕ → Node) → ((f : Forest) → nodes (make f) ≡ n (size f) ∷ nodesOfAll f)
     → (k : ℕ) (f g : Forest) → group make k f ≡ some g → nodesOfAll g ≡ n k ∷ nodesOfAll f
@@ -133,7 +146,8 @@ unfolding forest nodes
 nodes-forest [] f e = ap nodesOfAll (Option·some-injective f nil (sym e))
 nodes-forest (n ∷ ns) f e = go (forest ns) (nodes-forest ns) e
   where
-    go : (o : Option Forest) → ((g : Forest) → o ≡ some g → nodesOfAll g ≡ ns) → elim o [ none ↦ none | some g ↦ place n g ] ≡ some f → nodesOfAll f ≡ n ∷ ns
+    go : (o : Option Forest) → ((g : Forest) → o ≡ some g → nodesOfAll g ≡ ns)
+        → elim o [ none ↦ none | some g ↦ place n g ] ≡ some f → nodesOfAll f ≡ n ∷ ns
     go none below e = absurd (Option·none-ne-some f e)
     go (some g) below e = placed n g f e ∙ ap (_∷_ n) (below g refl)
 
@@ -152,16 +166,6 @@ nodes-termOf ns t e = sym (append-nil (nodes t)) ∙ nodes-forest ns (cons t nil
     go (some (cons u nil)) e = cc
     go (some (cons u (cons v f))) e = absurd (Option·none-ne-some t e)
 
-pub termOf-none : (ns : List Node) → termOf ns ≡ none → (t : Term) → nodes t ≡ ns → ⊥
-termOf-none ns e t h = Option·none-ne-some t (sym e ∙ ap termOf (sym h) ∙ termOf-nodes t)
-
--- What a reader from left to right finds. No term, or no forest of that size, begins the nodes:
-abbrev pub NoTerm : List Node → Type 0
-NoTerm ns = (t : Term) (r : List Node) → nodes t ++ r ≡ ns → ⊥
-
-abbrev pub NoForest : ℕ → List Node → Type 0
-NoForest k ns = (f : Forest) (r : List Node) → size f ≡ k → nodesOfAll f ++ r ≡ ns → ⊥
-
 none-if : (ns : List Node) → ((t : Term) → nodes t ≡ ns → ⊥) → termOf ns ≡ none
 none-if ns h = go (termOf ns) refl
   where
@@ -173,8 +177,10 @@ pub none-at-all : (ns : List Node) → NoTerm ns → termOf ns ≡ none
 none-at-all ns h = none-if ns (λ t e. h t [] (append-nil (nodes t) ∙ e))
 
 -- a term, and then more
-pub none-with-more : (ns : List Node) (t : Term) (x : Node) (r : List Node) → nodes t ++ (x ∷ r) ≡ ns → termOf ns ≡ none
-none-with-more ns t x r h = none-if ns (λ u e. cons≢nil (unique t u (x ∷ r) [] (h ∙ sym e ∙ sym (append-nil (nodes u))) .1))
+pub none-with-more : (ns : List Node) (t : Term) (x : Node) (r : List Node) → nodes t ++ (x ∷ r) ≡ ns
+    → termOf ns ≡ none
+none-with-more ns t x r h =
+    none-if ns (λ u e. cons≢nil (unique t u (x ∷ r) [] (h ∙ sym e ∙ sym (append-nil (nodes u))) .1))
 
 pub no-nodes : NoTerm []
 unfolding nodes
@@ -183,21 +189,15 @@ no-nodes (seq f) r e = cons≢nil e
 no-nodes (pll f) r e = cons≢nil e
 no-nodes (xor f) r e = cons≢nil e
 
--- A node is followed by as many terms as it says.
-abbrev pub width : Node → ℕ
-width (Plan.activity i) = 0
-width (Plan.seq k) = k
-width (Plan.pll k) = k
-width (Plan.xor k) = k
-
-opened : (t : Term) (r : List Node) (n : Node) (ns : List Node) → nodes t ++ r ≡ n ∷ ns → (f : Forest) × (size f ≡ width n) × (nodesOfAll f ++ r ≡ ns)
+opened : (t : Term) (r : List Node) (n : Node) (ns : List Node) → nodes t ++ r ≡ n ∷ ns
+    → (f : Forest) × (size f ≡ childrenOf n) × (nodesOfAll f ++ r ≡ ns)
 unfolding nodes size
-opened (act i) r n ns e = (nil, ap width (head-eq-of-cons-eq e), tail-eq-of-cons-eq e)
-opened (seq f) r n ns e = (f, ap width (head-eq-of-cons-eq e), tail-eq-of-cons-eq e)
-opened (pll f) r n ns e = (f, ap width (head-eq-of-cons-eq e), tail-eq-of-cons-eq e)
-opened (xor f) r n ns e = (f, ap width (head-eq-of-cons-eq e), tail-eq-of-cons-eq e)
+opened (act i) r n ns e = (nil, ap childrenOf (head-eq-of-cons-eq e), tail-eq-of-cons-eq e)
+opened (seq f) r n ns e = (f, ap childrenOf (head-eq-of-cons-eq e), tail-eq-of-cons-eq e)
+opened (pll f) r n ns e = (f, ap childrenOf (head-eq-of-cons-eq e), tail-eq-of-cons-eq e)
+opened (xor f) r n ns e = (f, ap childrenOf (head-eq-of-cons-eq e), tail-eq-of-cons-eq e)
 
-pub no-group : (n : Node) (ns : List Node) → NoForest (width n) ns → NoTerm (n ∷ ns)
+pub no-group : (n : Node) (ns : List Node) → NoForest (childrenOf n) ns → NoTerm (n ∷ ns)
 no-group n ns h t r e = let (f, k, d) = opened t r n ns e in h f r k d
 
 pub no-first : (k : ℕ) (ns : List Node) → NoTerm ns → NoForest (suc k) ns
@@ -212,10 +212,6 @@ no-rest k t ns h (cons u f) r n e =
     h f r (omega arith) (unique u t (nodesOfAll f ++ r) ns (sym (append-assoc (nodes u) (nodesOfAll f) r) ∙ e) .1)
 
 -- Where every group's node counts a child, so does every group.
-every-append {ℓ} : {A : Type ℓ} (p : A → Bool) (xs ys : List A) → every p (xs ++ ys) ≡ every p xs && every p ys
-every-append p [] ys = refl
-every-append p (x ∷ xs) ys = rw (every-append p xs ys) (sym (and-assoc (p x) (every p xs) (every p ys)))
-
 and-map : (a b c d : Bool) → (a ≡ true → c ≡ true) → (b ≡ true → d ≡ true) → a && b ≡ true → c && d ≡ true
 and-map a b c d f g e = let (p, q) = and-eq-true-iff a b .0 e in and-eq-true-iff c d .1 (f p, g q)
 
@@ -226,7 +222,8 @@ some-child (suc k) e = lt-ltb 0 (suc k) (omega arith)
 full-group : (f : Forest) (n : ℕ) → (every (isNode n) (nodesOfAll f) ≡ true → fullAll f ≡ true)
     → isChildCount (size f) && every (isNode n) (nodesOfAll f) ≡ true → ltb 0 (size f) && fullAll f ≡ true
 full-group f n below e =
-    and-map (isChildCount (size f)) (every (isNode n) (nodesOfAll f)) (ltb 0 (size f)) (fullAll f) (some-child (size f)) below e
+    and-map (isChildCount (size f)) (every (isNode n) (nodesOfAll f)) (ltb 0 (size f)) (fullAll f)
+    (some-child (size f)) below e
 
 mutual
   unfolding nodes full
@@ -240,8 +237,10 @@ mutual
   pub full-all : (f : Forest) (n : ℕ) → every (isNode n) (nodesOfAll f) ≡ true → fullAll f ≡ true
   full-all nil n e = refl
   full-all (cons t f) n e =
-      and-map (every (isNode n) (nodes t)) (every (isNode n) (nodesOfAll f)) (full t) (fullAll f) (λ h. full-nodes t n h) (λ h. full-all f n h)
+      and-map (every (isNode n) (nodes t)) (every (isNode n) (nodesOfAll f)) (full t) (fullAll f)
+      (λ h. full-nodes t n h) (λ h. full-all f n h)
       (sym (every-append (isNode n) (nodes t) (nodesOfAll f)) ∙ e)
 
-pub full-termOf : (ns : List Node) (n : ℕ) (t : Term) → every (isNode n) ns ≡ true → termOf ns ≡ some t → full t ≡ true
+pub full-termOf : (ns : List Node) (n : ℕ) (t : Term) → every (isNode n) ns ≡ true → termOf ns ≡ some t
+    → full t ≡ true
 full-termOf ns n t h e = full-nodes t n (ap (every (isNode n)) (nodes-termOf ns t e) ∙ h)

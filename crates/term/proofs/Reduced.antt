@@ -1,11 +1,13 @@
 -- The variants of a term are exactly its reduced subterms.
 use mathlib.Core.Bool.{true, and-eq-true-iff, false≢true}
-use mathlib.Core.List.{List·Memᴰ, List·Memᴰ·head, Memᴰ·append-left, Memᴰ·append-right, List·Memᴰ·append-cases, List·Memᴰ·not-nil, List·Memᴰ·eq-of-singleton, Memᴰ·map, Memᴰ·of-map}
+use mathlib.Core.List.{List·Memᴰ, List·Memᴰ·head, Memᴰ·append-left, Memᴰ·append-right, List·Memᴰ·append-cases}
+use mathlib.Core.List.{List·Memᴰ·not-nil, List·Memᴰ·eq-of-singleton, Memᴰ·map, Memᴰ·of-map}
 use mathlib.Core.Logic.{_↔_, ⊎-elim}
 use mathlib.Core.Path.{_≡_, refl, sym, ap, _∙_, subst}
 use Rattle.term.specs.Term.{Term, Forest, act, seq, pll, xor, nil, cons}
 use Rattle.term.specs.Variants.{variants, combinations, alternatives}
-use Rattle.term.specs.Reduced.{OneOf, head, tail, Replaces, pick, inSeq, inPll, inXor, ReplacesIn, first, later, Steps, done, step, xorFree, xorFreeAll, Reduced}
+use Rattle.term.specs.Reduced.{OneOf, head, tail, Replaces, pick, inSeq, inPll, inXor, ReplacesIn, first, later}
+use Rattle.term.specs.Reduced.{Steps, done, step, xorFree, xorFreeAll, Reduced}
 use Rattle.term.proofs.Members.{paired-mem, paired-cases, paired-mono, append-mono, map-mono}
 
 -- A variant after a replacement is one before it.
@@ -24,12 +26,18 @@ mutual
   before (inXor r) m = apart-before r m
 
   together-before : {f g h : Forest} → ReplacesIn f g → List·Memᴰ h (combinations g) → List·Memᴰ h (combinations f)
-  together-before (first {t} {u} {f} r) m = paired-mono (variants u) (variants t) (combinations f) (combinations f) (λ v n. before r n) (λ g n. n) m
-  together-before (later {t} {f} {g} r) m = paired-mono (variants t) (variants t) (combinations g) (combinations f) (λ v n. n) (λ h n. together-before r n) m
+  together-before (first {t} {u} {f} r) m =
+      paired-mono (variants u) (variants t) (combinations f) (combinations f) (λ v n. before r n) (λ g n. n) m
+  together-before (later {t} {f} {g} r) m =
+      paired-mono (variants t) (variants t) (combinations g) (combinations f) (λ v n. n) (λ h n. together-before r n)
+      m
 
-  apart-before : {f g : Forest} {v : Term} → ReplacesIn f g → List·Memᴰ v (alternatives g) → List·Memᴰ v (alternatives f)
-  apart-before (first {t} {u} {f} r) m = append-mono (variants u) (alternatives f) (variants t) (alternatives f) (λ n. before r n) (λ n. n) m
-  apart-before (later {t} {f} {g} r) m = append-mono (variants t) (alternatives g) (variants t) (alternatives f) (λ n. n) (λ n. apart-before r n) m
+  apart-before : {f g : Forest} {v : Term} → ReplacesIn f g → List·Memᴰ v (alternatives g)
+      → List·Memᴰ v (alternatives f)
+  apart-before (first {t} {u} {f} r) m =
+      append-mono (variants u) (alternatives f) (variants t) (alternatives f) (λ n. before r n) (λ n. n) m
+  apart-before (later {t} {f} {g} r) m =
+      append-mono (variants t) (alternatives g) (variants t) (alternatives f) (λ n. n) (λ n. apart-before r n) m
 
 -- An xor-free term is a variant of itself.
 mutual
@@ -55,7 +63,8 @@ steps-join : {A : Type 0} {R : A → A → Type 0} {a b c : A} → Steps R a b �
 steps-join done q = q
 steps-join (step r p) q = step r (steps-join p q)
 
-steps-map : {A B : Type 0} {R : A → A → Type 0} {S : B → B → Type 0} {a b : A} (f : A → B) → ((x y : A) → R x y → S (f x) (f y))
+steps-map : {A B : Type 0} {R : A → A → Type 0} {S : B → B → Type 0} {a b : A} (f : A → B)
+    → ((x y : A) → R x y → S (f x) (f y))
     → Steps R a b → Steps S (f a) (f b)
 steps-map f h done = done
 steps-map f h (step {a} {b} r p) = step (h a b r) (steps-map f h p)
@@ -67,9 +76,13 @@ mutual
   reduces : (t v : Term) → List·Memᴰ v (variants t) → Steps Replaces t v
   reduces (act i) v m = subst (Steps Replaces (act i)) (sym (List·Memᴰ·eq-of-singleton m)) done
   reduces (seq f) v m =
-      let (g, n, e) = Memᴰ·of-map seq (combinations f) m in subst (Steps Replaces (seq f)) e (steps-map seq (λ x y r. inSeq r) (reduces-together f g n))
+      let (g, n, e) =
+      Memᴰ·of-map seq (combinations f) m in subst (Steps Replaces (seq f)) e
+      (steps-map seq (λ x y r. inSeq r) (reduces-together f g n))
   reduces (pll f) v m =
-      let (g, n, e) = Memᴰ·of-map pll (combinations f) m in subst (Steps Replaces (pll f)) e (steps-map pll (λ x y r. inPll r) (reduces-together f g n))
+      let (g, n, e) =
+      Memᴰ·of-map pll (combinations f) m in subst (Steps Replaces (pll f)) e
+      (steps-map pll (λ x y r. inPll r) (reduces-together f g n))
   reduces (xor f) v m = let (c, o, p) = reduces-apart f v m in step (pick o) p
 
   reduces-together : (f g : Forest) → List·Memᴰ g (combinations f) → Steps ReplacesIn f g
@@ -77,7 +90,8 @@ mutual
   reduces-together (cons t f) g m =
       let (u, h, k, l, e) = paired-cases (variants t) (combinations f) m in
       subst (Steps ReplacesIn (cons t f)) e
-      (steps-join (steps-map (λ x. cons x f) (λ x y r. first r) (reduces t u k)) (steps-map (cons u) (λ x y r. later r) (reduces-together f h l)))
+      (steps-join (steps-map (λ x. cons x f) (λ x y r. first r) (reduces t u k))
+      (steps-map (cons u) (λ x y r. later r) (reduces-together f h l)))
 
   reduces-apart : (f : Forest) (v : Term) → List·Memᴰ v (alternatives f) → (c : Term) × OneOf c f × Steps Replaces c v
   reduces-apart nil v m = absurd (List·Memᴰ·not-nil m)
@@ -90,8 +104,10 @@ mutual
 
   free-variants : (t v : Term) → List·Memᴰ v (variants t) → xorFree v ≡ true
   free-variants (act i) v m = ap xorFree (List·Memᴰ·eq-of-singleton m)
-  free-variants (seq f) v m = let (g, n, e) = Memᴰ·of-map seq (combinations f) m in ap xorFree (sym e) ∙ free-together f g n
-  free-variants (pll f) v m = let (g, n, e) = Memᴰ·of-map pll (combinations f) m in ap xorFree (sym e) ∙ free-together f g n
+  free-variants (seq f) v m =
+      let (g, n, e) = Memᴰ·of-map seq (combinations f) m in ap xorFree (sym e) ∙ free-together f g n
+  free-variants (pll f) v m =
+      let (g, n, e) = Memᴰ·of-map pll (combinations f) m in ap xorFree (sym e) ∙ free-together f g n
   free-variants (xor f) v m = free-apart f v m
 
   free-together : (f g : Forest) → List·Memᴰ g (combinations f) → xorFreeAll g ≡ true
@@ -102,7 +118,8 @@ mutual
 
   free-apart : (f : Forest) (v : Term) → List·Memᴰ v (alternatives f) → xorFree v ≡ true
   free-apart nil v m = absurd (List·Memᴰ·not-nil m)
-  free-apart (cons t f) v m = ⊎-elim (λ n. free-variants t v n) (λ n. free-apart f v n) (List·Memᴰ·append-cases (variants t) m)
+  free-apart (cons t f) v m =
+      ⊎-elim (λ n. free-variants t v n) (λ n. free-apart f v n) (List·Memᴰ·append-cases (variants t) m)
 
 pub variants-reduced : (t v : Term) → List·Memᴰ v (variants t) ↔ Reduced t v
 variants-reduced t v = (

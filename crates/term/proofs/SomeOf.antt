@@ -23,7 +23,8 @@ module _ {ℓ} {A : Type ℓ} where
   pub some-append : (p : A → Bool) (xs ys : List A) → some-of p (xs ++ ys) ≡ some-of p xs || some-of p ys
   unfolding some-of
   some-append p [] ys = refl
-  some-append p (x ∷ xs) ys = ap (_||_ (p x)) (some-append p xs ys) ∙ sym (or-assoc (p x) (some-of p xs) (some-of p ys))
+  some-append p (x ∷ xs) ys =
+      ap (_||_ (p x)) (some-append p xs ys) ∙ sym (or-assoc (p x) (some-of p xs) (some-of p ys))
 
   pub some-or : (p q : A → Bool) (xs : List A) → some-of (λ x. p x || q x) xs ≡ some-of p xs || some-of q xs
   unfolding some-of
@@ -48,7 +49,8 @@ module _ {ℓ} {A : Type ℓ} where
   some-found p [] e = absurd (false≢true e)
   some-found p (x ∷ xs) e = go (some-found p xs) (p x) refl e
     where
-      go : (some-of p xs ≡ true → (y : A) × List·Memᴰ y xs × (p y ≡ true)) → (b : Bool) → p x ≡ b → b || some-of p xs ≡ true → (y : A) × List·Memᴰ y (x ∷ xs) × (p y ≡ true)
+      go : (some-of p xs ≡ true → (y : A) × List·Memᴰ y xs × (p y ≡ true)) → (b : Bool) → p x ≡ b
+          → b || some-of p xs ≡ true → (y : A) × List·Memᴰ y (x ∷ xs) × (p y ≡ true)
       go later true h e = (x, List·Memᴰ·head refl, h)
       go later false h e = let (y, m, q) = later e in (y, List·Memᴰ·tail m, q)
 
@@ -67,20 +69,26 @@ module _ {ℓ κ} {A : Type ℓ} {B : Type κ} where
       → some-of (λ x. some-of (p x) ys) xs ≡ some-of (λ y. some-of (λ x. p x y) xs) ys
   unfolding some-of
   some-swap p [] ys = sym (some-none ys)
-  some-swap p (x ∷ xs) ys = ap (_||_ (some-of (p x) ys)) (some-swap p xs ys) ∙ sym (some-or (p x) (λ y. some-of (λ z. p z y) xs) ys)
+  some-swap p (x ∷ xs) ys =
+      ap (_||_ (some-of (p x) ys)) (some-swap p xs ys) ∙ sym (some-or (p x) (λ y. some-of (λ z. p z y) xs) ys)
 
   -- some pair of an element of one list and an element of another
   abbrev pub some-pair : (A → B → Bool) → List A → List B → Bool
   some-pair p xs ys = some-of (λ x. some-of (p x) ys) xs
 
-  pub pair-cong : {p q : A → B → Bool} → ((x : A) (y : B) → p x y ≡ q x y) → (xs : List A) (ys : List B) → some-pair p xs ys ≡ some-pair q xs ys
+  pub pair-cong : {p q : A → B → Bool} → ((x : A) (y : B) → p x y ≡ q x y) → (xs : List A) (ys : List B)
+      → some-pair p xs ys ≡ some-pair q xs ys
   pair-cong h xs ys = some-cong (λ x. some-cong (h x) ys) xs
 
-  pub pair-or : (p q : A → B → Bool) (xs : List A) (ys : List B) → some-pair (λ x y. p x y || q x y) xs ys ≡ some-pair p xs ys || some-pair q xs ys
-  pair-or p q xs ys = some-cong (λ x. some-or (p x) (q x) ys) xs ∙ some-or (λ x. some-of (p x) ys) (λ x. some-of (q x) ys) xs
+  pub pair-or : (p q : A → B → Bool) (xs : List A) (ys : List B)
+      → some-pair (λ x y. p x y || q x y) xs ys ≡ some-pair p xs ys || some-pair q xs ys
+  pair-or p q xs ys =
+      some-cong (λ x. some-or (p x) (q x) ys) xs ∙ some-or (λ x. some-of (p x) ys) (λ x. some-of (q x) ys) xs
 
-  pub pair-first : (p : A → Bool) (xs : List A) (ys : List B) → 1 ≤ length ys → some-pair (λ x y. p x) xs ys ≡ some-of p xs
+  pub pair-first : (p : A → Bool) (xs : List A) (ys : List B) → 1 ≤ length ys
+      → some-pair (λ x y. p x) xs ys ≡ some-of p xs
   pair-first p xs ys h = some-cong (λ x. some-const (p x) ys h) xs
 
-  pub pair-second : (q : B → Bool) (xs : List A) (ys : List B) → 1 ≤ length xs → some-pair (λ x y. q y) xs ys ≡ some-of q ys
+  pub pair-second : (q : B → Bool) (xs : List A) (ys : List B) → 1 ≤ length xs
+      → some-pair (λ x y. q y) xs ys ≡ some-of q ys
   pair-second q xs ys h = some-const (some-of q ys) xs h

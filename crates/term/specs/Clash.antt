@@ -1,7 +1,8 @@
 -- The rule for an activity that stands twice: two of its nodes meet first at an s or p.
 use Prim.Native.Nat.{ℕ}
 use mathlib.Core.Bool.{Bool, false, _||_}
-use mathlib.Core.List.{List}
+use mathlib.Core.List.{List, _∷_, _++_}
+use mathlib.Core.Path.{_≡_}
 use Rattle.term.specs.Term.{Term, Forest, act, seq, pll, xor, nil, cons}
 use Rattle.term.specs.Variants.{activities, activitiesOfAll, member, some-of}
 
@@ -25,3 +26,7 @@ unfoldable mutual
   pub clashApart : Forest → Bool
   clashApart nil = false
   clashApart (cons t f) = clash t || clashApart f
+
+-- An activity stands at two places of a list.
+abbrev pub Repeats : List ℕ → Type 0
+Repeats xs = (i : ℕ) × (a b c : List ℕ) × (xs ≡ a ++ i ∷ b ++ i ∷ c)

@@ -1,5 +1,5 @@
--- The reduced activity terms of document 000, section 2.2. B is a reduced subterm of A if B comes from A by repeatedly
--- replacing subterms (xor C1 .. Cn) by exactly one Ci so that B is xor-free.
+-- The reduced activity terms of document 000, section 2.2. B is a reduced subterm of A if B comes from A by
+-- repeatedly replacing subterms (xor C1 .. Cn) by exactly one Ci so that B is xor-free.
 use mathlib.Core.Bool.{Bool, true, false, _&&_}
 use mathlib.Core.Path.{_≡_}
 use Rattle.term.specs.Term.{Term, Forest, act, seq, pll, xor, nil, cons}

@@ -1,9 +1,9 @@
 -- The activity terms of document 000, Definition 1, and the nodes that write a term down in prefix order.
-use Prim.Native.Nat.{ℕ, zero, suc, _+_, _-_}
-use mathlib.Core.Bool.{Bool, true, false}
+use Prim.Native.Nat.{ℕ, zero, suc}
+use mathlib.Core.Bool.{true, false}
 use mathlib.Core.List.{List, [], _∷_, _++_}
 use mathlib.Core.Option.{Option, none, some}
-use lib.Dec.{leb, ltb, eqb}
+use lib.Dec.{leb}
 use Rattle.plan.specs.Plan.{Node}
 use Rattle.plan.specs.Plan
 

@@ -1,7 +1,8 @@
--- The variants of a term in the order of their numbers. An x has its first child's variants, then its second's; an s or
--- p has every combination, its first child varying slowest. Each is a reduced activity term of document 000, section 2.2.
+-- The variants of a term in the order of their numbers. An x has its first child's variants, then its second's; an s
+-- or p has every combination, its first child varying slowest. Each is a reduced activity term of document 000,
+-- section 2.2.
 use Prim.Native.Nat.{ℕ}
-use mathlib.Core.Bool.{Bool, true, false, _||_}
+use mathlib.Core.Bool.{Bool, false, _||_}
 use mathlib.Core.List.{List, [], _∷_, _++_, map}
 use lib.Dec.{eqb}
 use lib.ListN.{length}

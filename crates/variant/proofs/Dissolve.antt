@@ -1,5 +1,5 @@
--- Rules (3) and (5) keep what matters: the activities in their order, the precedence, no x, a child in every group, and
--- the nodes become no more. What they leave has no s in an s and no p in a p, and they leave that as it is.
+-- Rules (3) and (5) keep what matters: the activities in their order, the precedence, no x, a child in every group,
+-- and the nodes become no more. What they leave has no s in an s and no p in a p, and they leave that as it is.
 use Prim.Native.Nat.{ℕ, _+_, _≤_, _<_}
 use mathlib.Core.Bool.{Bool, true, false, not, _&&_, _||_, false≢true, and-eq-true-iff, and-assoc, or-assoc}
 use mathlib.Core.List.{List, [], _∷_, _++_, map, append-assoc}
@@ -9,11 +9,11 @@ use borrow.Author.Tests.{ltb-true, lt-ltb}
 use lib.Dec.{ltb}
 use lib.ListN.{length, getD, length-append}
 use Rattle.plan.specs.Plan.{Node}
-use Rattle.bools.proofs.Bools.{both}
+use Rattle.base.proofs.Bools.{both}
 use Rattle.term.specs.Term.{Term, Forest, act, seq, pll, xor, nil, cons, size, nodes, nodesOfAll}
 use Rattle.term.specs.Variants.{activities, activitiesOfAll, member, variants, combinations, paired, variantCount}
 use Rattle.term.specs.Reduced.{xorFree, xorFreeAll}
-use Rattle.term.proofs.Model.{full, fullAll}
+use Rattle.term.specs.Model.{full, fullAll}
 use Rattle.term.proofs.Twice.{member-append}
 use Rattle.variant.specs.Precedence.{precedes, withinOne}
 use Rattle.variant.specs.Project.{variantAt}
@@ -49,7 +49,8 @@ activities-joined : (f g : Forest) → activitiesOfAll (joined f g) ≡ activiti
 unfolding joined activities
 activities-joined nil g = refl
 activities-joined (cons t f) g =
-    ap (λ (l : List ℕ). activities t ++ l) (activities-joined f g) ∙ sym (append-assoc (activities t) (activitiesOfAll f) (activitiesOfAll g))
+    ap (λ (l : List ℕ). activities t ++ l) (activities-joined f g)
+    ∙ sym (append-assoc (activities t) (activitiesOfAll f) (activitiesOfAll g))
 
 activities-put : {t : Term} {g h : Forest} → Put t g h → activitiesOfAll h ≡ activities t ++ activitiesOfAll g
 unfolding activities
@@ -66,23 +67,34 @@ mutual
   dissolved-activities (pll f) = dissolvedIn-activities f inPll in-pll
   dissolved-activities (xor f) = dissolvedIn-activities f cons in-xor
 
-  dissolvedIn-activities : (f : Forest) (put : Term → Forest → Forest) → Puts put → activitiesOfAll (dissolvedIn put f) ≡ activitiesOfAll f
+  dissolvedIn-activities : (f : Forest) (put : Term → Forest → Forest) → Puts put
+      → activitiesOfAll (dissolvedIn put f) ≡ activitiesOfAll f
   dissolvedIn-activities nil put p = refl
   dissolvedIn-activities (cons t f) put p =
-      activities-put (p (dissolved t) (dissolvedIn put f)) ∙ ap₂ _++_ (dissolved-activities t) (dissolvedIn-activities f put p)
+      activities-put (p (dissolved t) (dissolvedIn put f)) ∙ ap₂ _++_ (dissolved-activities t)
+      (dissolvedIn-activities f put p)
 
 -- The precedence is the same.
 before-joined : (f g : Forest) (i j : ℕ)
-    → before (joined f g) i j ≡ before f i j || member i (activitiesOfAll f) && member j (activitiesOfAll g) || before g i j
+    → before (joined f g) i j ≡ before f i j || member i (activitiesOfAll f) && member j
+    (activitiesOfAll g) || before g i j
 unfolding joined precedes activities member
 before-joined nil g i j = refl
 before-joined (cons t f) g i j =
     before-cons t (joined f g) i j
-    ∙ rw (activities-joined f g, before-joined f g i j, before-cons t f i j, member-append j (activitiesOfAll f), member-append i (activities t))
+    ∙ rw (
+      activities-joined f g,
+      before-joined f g i j,
+      before-cons t f i j,
+      member-append j
+          (activitiesOfAll f),
+      member-append i (activities t),
+    )
     (regroup (precedes t i j) (member i (activities t)) (member j (activitiesOfAll f)) (member j (activitiesOfAll g))
     (before f i j) (member i (activitiesOfAll f)) (before g i j))
   where
-    regroup : (p a b c x d y : Bool) → p || a && (b || c) || (x || d && c || y) ≡ p || a && b || x || (a || d) && c || y
+    regroup : (p a b c x d y : Bool)
+        → p || a && (b || c) || (x || d && c || y) ≡ p || a && b || x || (a || d) && c || y
     regroup true a b c x d y = refl
     regroup false false b c x d y = refl
     regroup false true true c x d y = refl
@@ -103,7 +115,8 @@ within-joined : (f g : Forest) (i j : ℕ) → withinOne (joined f g) i j ≡ wi
 unfolding joined precedes
 within-joined nil g i j = refl
 within-joined (cons t f) g i j =
-    ap (λ (b : Bool). precedes t i j || b) (within-joined f g i j) ∙ sym (or-assoc (precedes t i j) (withinOne f i j) (withinOne g i j))
+    ap (λ (b : Bool). precedes t i j || b) (within-joined f g i j)
+    ∙ sym (or-assoc (precedes t i j) (withinOne f i j) (withinOne g i j))
 
 abbrev Within : (Term → Forest → Forest) → Type 0
 Within put = (t : Term) (g : Forest) (i j : ℕ) → withinOne (put t g) i j ≡ precedes t i j || withinOne g i j
@@ -132,9 +145,16 @@ mutual
   dissolved-before nil i j = refl
   dissolved-before (cons t f) i j =
       before-put (dissolved t) (dissolvedIn inSeq f) i j
-      ∙ rw (dissolved-before f i j, dissolved-precedes t i j, dissolved-activities t, dissolvedIn-activities f inSeq in-seq) (sym (before-cons t f i j))
+      ∙ rw (
+        dissolved-before f i j,
+        dissolved-precedes t i j,
+        dissolved-activities t,
+        dissolvedIn-activities f inSeq in-seq,
+      )
+      (sym (before-cons t f i j))
 
-  dissolved-within : (f : Forest) (put : Term → Forest → Forest) → Within put → (i j : ℕ) → withinOne (dissolvedIn put f) i j ≡ withinOne f i j
+  dissolved-within : (f : Forest) (put : Term → Forest → Forest) → Within put → (i j : ℕ)
+      → withinOne (dissolvedIn put f) i j ≡ withinOne f i j
   dissolved-within nil put w i j = refl
   dissolved-within (cons t f) put w i j =
       w (dissolved t) (dissolvedIn put f) i j ∙ ap₂ _||_ (dissolved-precedes t i j) (dissolved-within f put w i j)
@@ -143,13 +163,17 @@ mutual
 nodes-joined : (f g : Forest) → nodesOfAll (joined f g) ≡ nodesOfAll f ++ nodesOfAll g
 unfolding joined nodes
 nodes-joined nil g = refl
-nodes-joined (cons t f) g = ap (λ (l : List Node). nodes t ++ l) (nodes-joined f g) ∙ sym (append-assoc (nodes t) (nodesOfAll f) (nodesOfAll g))
+nodes-joined (cons t f) g =
+    ap (λ (l : List Node). nodes t ++ l) (nodes-joined f g)
+    ∙ sym (append-assoc (nodes t) (nodesOfAll f) (nodesOfAll g))
 
 nodes-put : {t : Term} {g h : Forest} → Put t g h → length (nodesOfAll h) ≤ length (nodes t) + length (nodesOfAll g)
 unfolding nodes
 nodes-put (stays {t} {g}) = omega (arith, length-append (nodes t) (nodesOfAll g))
-nodes-put (opens-seq {f} {g}) = omega (arith, ap length (nodes-joined f g), length-append (nodesOfAll f) (nodesOfAll g))
-nodes-put (opens-pll {f} {g}) = omega (arith, ap length (nodes-joined f g), length-append (nodesOfAll f) (nodesOfAll g))
+nodes-put (opens-seq {f} {g}) =
+    omega (arith, ap length (nodes-joined f g), length-append (nodesOfAll f) (nodesOfAll g))
+nodes-put (opens-pll {f} {g}) =
+    omega (arith, ap length (nodes-joined f g), length-append (nodesOfAll f) (nodesOfAll g))
 
 mutual
   unfolding dissolved nodes
@@ -160,16 +184,25 @@ mutual
   dissolved-nodes (pll f) = omega (arith, dissolvedIn-nodes f inPll in-pll)
   dissolved-nodes (xor f) = omega (arith, dissolvedIn-nodes f cons in-xor)
 
-  dissolvedIn-nodes : (f : Forest) (put : Term → Forest → Forest) → Puts put → length (nodesOfAll (dissolvedIn put f)) ≤ length (nodesOfAll f)
+  dissolvedIn-nodes : (f : Forest) (put : Term → Forest → Forest) → Puts put
+      → length (nodesOfAll (dissolvedIn put f)) ≤ length (nodesOfAll f)
   dissolvedIn-nodes nil put p = omega arith
   dissolvedIn-nodes (cons t f) put p =
-      omega (arith, nodes-put (p (dissolved t) (dissolvedIn put f)), dissolved-nodes t, dissolvedIn-nodes f put p, length-append (nodes t) (nodesOfAll f))
+      omega (
+        arith,
+        nodes-put (p (dissolved t)
+            (dissolvedIn put f)),
+        dissolved-nodes t,
+        dissolvedIn-nodes f put p,
+        length-append (nodes t) (nodesOfAll f),
+      )
 
 -- No x is made or lost.
 xorFree-joined : (f g : Forest) → xorFreeAll (joined f g) ≡ xorFreeAll f && xorFreeAll g
 unfolding joined xorFree
 xorFree-joined nil g = refl
-xorFree-joined (cons t f) g = ap (λ (b : Bool). xorFree t && b) (xorFree-joined f g) ∙ sym (and-assoc (xorFree t) (xorFreeAll f) (xorFreeAll g))
+xorFree-joined (cons t f) g =
+    ap (λ (b : Bool). xorFree t && b) (xorFree-joined f g) ∙ sym (and-assoc (xorFree t) (xorFreeAll f) (xorFreeAll g))
 
 xorFree-put : {t : Term} {g h : Forest} → Put t g h → xorFreeAll h ≡ xorFree t && xorFreeAll g
 unfolding xorFree
@@ -186,7 +219,8 @@ mutual
   dissolved-xorFree (pll f) = dissolvedIn-xorFree f inPll in-pll
   dissolved-xorFree (xor f) = refl
 
-  dissolvedIn-xorFree : (f : Forest) (put : Term → Forest → Forest) → Puts put → xorFreeAll (dissolvedIn put f) ≡ xorFreeAll f
+  dissolvedIn-xorFree : (f : Forest) (put : Term → Forest → Forest) → Puts put
+      → xorFreeAll (dissolvedIn put f) ≡ xorFreeAll f
   dissolvedIn-xorFree nil put p = refl
   dissolvedIn-xorFree (cons t f) put p =
       xorFree-put (p (dissolved t) (dissolvedIn put f)) ∙ ap₂ _&&_ (dissolved-xorFree t) (dissolvedIn-xorFree f put p)
@@ -195,25 +229,29 @@ mutual
 full-joined : (f g : Forest) → fullAll (joined f g) ≡ fullAll f && fullAll g
 unfolding joined full
 full-joined nil g = refl
-full-joined (cons t f) g = ap (λ (b : Bool). full t && b) (full-joined f g) ∙ sym (and-assoc (full t) (fullAll f) (fullAll g))
+full-joined (cons t f) g =
+    ap (λ (b : Bool). full t && b) (full-joined f g) ∙ sym (and-assoc (full t) (fullAll f) (fullAll g))
 
 size-joined : (f g : Forest) → size f ≤ size (joined f g)
 unfolding joined size
 size-joined nil g = omega arith
 size-joined (cons t f) g = omega (arith, size-joined f g)
 
-opened-full : (f g : Forest) → ltb 0 (size f) && fullAll f ≡ true → fullAll g ≡ true → (0 < size (joined f g)) × (fullAll (joined f g) ≡ true)
+opened-full : (f g : Forest) → ltb 0 (size f) && fullAll f ≡ true → fullAll g ≡ true
+    → (0 < size (joined f g)) × (fullAll (joined f g) ≡ true)
 opened-full f g e h =
     let (s, a) = and-eq-true-iff (ltb 0 (size f)) (fullAll f) .0 e in
     (omega (arith, ltb-true 0 (size f) s, size-joined f g), full-joined f g ∙ both a h)
 
-full-put : {t : Term} {g h : Forest} → Put t g h → full t ≡ true → fullAll g ≡ true → (0 < size h) × (fullAll h ≡ true)
+full-put : {t : Term} {g h : Forest} → Put t g h → full t ≡ true → fullAll g ≡ true
+    → (0 < size h) × (fullAll h ≡ true)
 unfolding full size
 full-put (stays {t} {g}) e h = (omega arith, both e h)
 full-put (opens-seq {f} {g}) e h = opened-full f g e h
 full-put (opens-pll {f} {g}) e h = opened-full f g e h
 
-group-full : (f h : Forest) → (fullAll f ≡ true → (0 < size f → 0 < size h) × (fullAll h ≡ true)) → ltb 0 (size f) && fullAll f ≡ true
+group-full : (f h : Forest) → (fullAll f ≡ true → (0 < size f → 0 < size h) × (fullAll h ≡ true))
+    → ltb 0 (size f) && fullAll f ≡ true
     → ltb 0 (size h) && fullAll h ≡ true
 group-full f h below e =
     let (s, a) = and-eq-true-iff (ltb 0 (size f)) (fullAll f) .0 e in
@@ -234,7 +272,8 @@ mutual
   dissolvedIn-full nil put p e = (λ s. s, e)
   dissolvedIn-full (cons t f) put p e =
       let (a, b) = and-eq-true-iff (full t) (fullAll f) .0 e in
-      let (s, h) = full-put (p (dissolved t) (dissolvedIn put f)) (dissolved-full t a) (dissolvedIn-full f put p b .1) in
+      let (s, h) =
+      full-put (p (dissolved t) (dissolvedIn put f)) (dissolved-full t a) (dissolvedIn-full f put p b .1) in
       (λ n. s, h)
 
 -- No s stands in an s and no p in a p.
@@ -266,7 +305,8 @@ flat-joined : (kind : Term → Bool) (f g : Forest) → flatIn kind (joined f g)
 unfolding joined flat
 flat-joined kind nil g = refl
 flat-joined kind (cons t f) g =
-    ap (λ (b : Bool). not (kind t) && flat t && b) (flat-joined kind f g) ∙ sym (and-assoc (not (kind t) && flat t) (flatIn kind f) (flatIn kind g))
+    ap (λ (b : Bool). not (kind t) && flat t && b) (flat-joined kind f g)
+    ∙ sym (and-assoc (not (kind t) && flat t) (flatIn kind f) (flatIn kind g))
 
 abbrev Flattens : (Term → Bool) → (Term → Forest → Forest) → Type 0
 Flattens kind put = (t : Term) (g : Forest) → flatIn kind (put t g) ≡ flat t && flatIn kind g
@@ -298,7 +338,8 @@ mutual
   dissolved-flat (pll f) = dissolvedIn-flat f isPll inPll flat-pll
   dissolved-flat (xor f) = dissolvedIn-flat f (λ t. false) cons flat-xor
 
-  dissolvedIn-flat : (f : Forest) (kind : Term → Bool) (put : Term → Forest → Forest) → Flattens kind put → flatIn kind (dissolvedIn put f) ≡ true
+  dissolvedIn-flat : (f : Forest) (kind : Term → Bool) (put : Term → Forest → Forest) → Flattens kind put
+      → flatIn kind (dissolvedIn put f) ≡ true
   dissolvedIn-flat nil kind put p = refl
   dissolvedIn-flat (cons t f) kind put p =
       p (dissolved t) (dissolvedIn put f) ∙ ap₂ _&&_ (dissolved-flat t) (dissolvedIn-flat f kind put p)
@@ -328,7 +369,8 @@ mutual
   flat-dissolved (pll f) e = ap pll (flatIn-dissolved f isPll inPll stays-pll e)
   flat-dissolved (xor f) e = ap xor (flatIn-dissolved f (λ t. false) cons (λ t g e. refl) e)
 
-  flatIn-dissolved : (f : Forest) (kind : Term → Bool) (put : Term → Forest → Forest) → Stays kind put → flatIn kind f ≡ true → dissolvedIn put f ≡ f
+  flatIn-dissolved : (f : Forest) (kind : Term → Bool) (put : Term → Forest → Forest) → Stays kind put
+      → flatIn kind f ≡ true → dissolvedIn put f ≡ f
   flatIn-dissolved nil kind put s e = refl
   flatIn-dissolved (cons t f) kind put s e =
       let (a, c) = and-eq-true-iff (not (kind t) && flat t) (flatIn kind f) .0 e in

@@ -8,12 +8,14 @@ use borrow.Author.Tests.{ltb-true, lt-ltb, eq-eqb, eqb-true}
 use lib.Dec.{ltb, eqb}
 use lib.ListN.{length, length-append}
 use Rattle.plan.specs.Limits.{mostNodes, mostChildren, isChildCount}
-use Rattle.plan.specs.Plan.{isNode, every}
-use Rattle.bools.proofs.Bools.{both, and-left, and-right}
-use Rattle.format.proofs.Tests.{every-append, facts-between}
+use Rattle.plan.specs.Plan.{isNode}
+use Rattle.base.specs.Lists.{every}
+use Rattle.base.proofs.Bools.{both, and-left, and-right}
+use Rattle.base.proofs.Every.{every-append}
+use Rattle.format.proofs.Tests.{facts-between}
 use Rattle.term.specs.Term.{Term, Forest, act, seq, pll, xor, nil, cons, size, nodes, nodesOfAll}
 use Rattle.term.specs.Variants.{activities, activitiesOfAll, member}
-use Rattle.term.proofs.Model.{full, fullAll}
+use Rattle.term.specs.Model.{full, fullAll}
 use Rattle.variant.proofs.Members.{or-elim, or-left, member-left, member-right, member-either}
 
 -- The activities of nodes in range.
@@ -27,15 +29,21 @@ mutual
   nodes-below (act k) n e i m =
       let l : k < n = ltb-true k n (and-left (ltb k n) true e) in
       or-elim (eqb i k) false (λ q. let s : i ≡ k = eqb-true i k q in omega arith) (λ q. absurd (false≢true q)) m
-  nodes-below (seq f) n e i m = nodesOfAll-below f n (and-right (isChildCount (size f)) (every (isNode n) (nodesOfAll f)) e) i m
-  nodes-below (pll f) n e i m = nodesOfAll-below f n (and-right (isChildCount (size f)) (every (isNode n) (nodesOfAll f)) e) i m
-  nodes-below (xor f) n e i m = nodesOfAll-below f n (and-right (isChildCount (size f)) (every (isNode n) (nodesOfAll f)) e) i m
+  nodes-below (seq f) n e i m =
+      nodesOfAll-below f n (and-right (isChildCount (size f)) (every (isNode n) (nodesOfAll f)) e) i m
+  nodes-below (pll f) n e i m =
+      nodesOfAll-below f n (and-right (isChildCount (size f)) (every (isNode n) (nodesOfAll f)) e) i m
+  nodes-below (xor f) n e i m =
+      nodesOfAll-below f n (and-right (isChildCount (size f)) (every (isNode n) (nodesOfAll f)) e) i m
 
   nodesOfAll-below : (f : Forest) (n : ℕ) → every (isNode n) (nodesOfAll f) ≡ true → Below n (activitiesOfAll f)
   nodesOfAll-below nil n e i m = absurd (false≢true m)
   nodesOfAll-below (cons t f) n e i m =
-      let (a, b) = and-eq-true-iff (every (isNode n) (nodes t)) (every (isNode n) (nodesOfAll f)) .0 (sym (every-append (isNode n) (nodes t) (nodesOfAll f)) ∙ e) in
-      member-either i (activities t) (activitiesOfAll f) (λ k. nodes-below t n a i k) (λ k. nodesOfAll-below f n b i k) m
+      let (a, b) =
+      and-eq-true-iff (every (isNode n) (nodes t)) (every (isNode n) (nodesOfAll f)) .0
+      (sym (every-append (isNode n) (nodes t) (nodesOfAll f)) ∙ e) in
+      member-either i (activities t) (activitiesOfAll f) (λ k. nodes-below t n a i k)
+      (λ k. nodesOfAll-below f n b i k) m
 
 -- A term has a node, and a forest one for each child.
 pub nodes-some : (t : Term) → 1 ≤ length (nodes t)

@@ -6,3 +6,6 @@ pub mod Order
 pub mod Dissolve
 pub mod Fit
 pub mod RoundTrip
+pub mod Instance
+pub mod Words
+pub mod Tables

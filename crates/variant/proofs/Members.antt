@@ -25,7 +25,8 @@ member-left i xs ys e = member-append i xs ys ∙ or-left (member i xs) (member 
 pub member-right : (i : ℕ) (xs ys : List ℕ) → member i ys ≡ true → member i (xs ++ ys) ≡ true
 member-right i xs ys e = member-append i xs ys ∙ or-right (member i xs) (member i ys) e
 
-pub member-either {ℓ} : {C : Type ℓ} (i : ℕ) (xs ys : List ℕ) → (member i xs ≡ true → C) → (member i ys ≡ true → C) → member i (xs ++ ys) ≡ true → C
+pub member-either {ℓ} : {C : Type ℓ} (i : ℕ) (xs ys : List ℕ) → (member i xs ≡ true → C) → (member i ys ≡ true → C)
+    → member i (xs ++ ys) ≡ true → C
 member-either i xs ys f g e = or-elim (member i xs) (member i ys) f g (sym (member-append i xs ys) ∙ e)
 
 -- Two parts of a list without repeats have no repeats and no member in common.
@@ -51,5 +52,6 @@ unfolding repeats member
 apart [] ys e i h k = false≢true h
 apart (x ∷ xs) ys e i h k =
     let (a, b) = or-none (member x (xs ++ ys)) (repeats (xs ++ ys)) e in
-    let f : eqb i x ≡ true → ⊥ = λ q. false≢true (sym a ∙ ap (λ (z : ℕ). member z (xs ++ ys)) (sym (eqb-true i x q)) ∙ member-right i xs ys k) in
+    let f : eqb i x ≡ true → ⊥ =
+    λ q. false≢true (sym a ∙ ap (λ (z : ℕ). member z (xs ++ ys)) (sym (eqb-true i x q)) ∙ member-right i xs ys k) in
     or-elim (eqb i x) (member i xs) f (λ m. apart xs ys b i m k) h

@@ -3,11 +3,12 @@ use Prim.Native.Nat.{ℕ}
 use mathlib.Core.Bool.{Bool, true, false, _&&_, _||_, false≢true, or-false, and-eq-true-iff}
 use mathlib.Core.List.{List, _++_}
 use mathlib.Core.Path.{_≡_, refl, sym, ap, _∙_}
-use Rattle.bools.proofs.Bools.{both}
+use Rattle.base.proofs.Bools.{both}
 use Rattle.term.specs.Term.{Term, Forest, act, seq, pll, xor, nil, cons}
 use Rattle.term.specs.Variants.{activities, activitiesOfAll, member, repeats}
 use Rattle.variant.specs.Precedence.{precedes, withinOne, earlier}
-use Rattle.variant.proofs.Members.{or-elim, or-left, or-right, member-left, member-right, apart, repeats-left, repeats-right}
+use Rattle.variant.proofs.Members.{or-elim, or-left, or-right, member-left, member-right, apart, repeats-left}
+use Rattle.variant.proofs.Members.{repeats-right}
 
 -- In an s a child precedes those behind it, beside what its children and the others say.
 abbrev pub before : Forest → ℕ → ℕ → Bool
@@ -18,7 +19,8 @@ behind t f i j = precedes t i j || member i (activities t) && member j (activiti
 
 pub before-cons : (t : Term) (f : Forest) (i j : ℕ) → before (cons t f) i j ≡ behind t f i j || before f i j
 unfolding precedes
-before-cons t f i j = swap (member i (activities t) && member j (activitiesOfAll f)) (earlier f i j) (precedes t i j) (withinOne f i j)
+before-cons t f i j =
+    swap (member i (activities t) && member j (activitiesOfAll f)) (earlier f i j) (precedes t i j) (withinOne f i j)
   where
     swap : (a b c d : Bool) → a || b || (c || d) ≡ c || a || (b || d)
     swap true b true d = refl
@@ -29,7 +31,8 @@ before-cons t f i j = swap (member i (activities t) && member j (activitiesOfAll
 
 -- How i comes before j in an s: within its first child, from that one to one behind it, or among those behind.
 before-cases {ℓ} : {C : Type ℓ} (t : Term) (f : Forest) (i j : ℕ) → (precedes t i j ≡ true → C)
-    → (member i (activities t) ≡ true → member j (activitiesOfAll f) ≡ true → C) → (before f i j ≡ true → C) → before (cons t f) i j ≡ true → C
+    → (member i (activities t) ≡ true → member j (activitiesOfAll f) ≡ true → C) → (before f i j ≡ true → C)
+    → before (cons t f) i j ≡ true → C
 before-cases t f i j inside across further e =
     or-elim (behind t f i j) (before f i j)
     (or-elim (precedes t i j) (member i (activities t) && member j (activitiesOfAll f)) inside (λ m.
@@ -39,9 +42,11 @@ before-cases t f i j inside across further e =
 
 is-inside : (t : Term) (f : Forest) (i j : ℕ) → precedes t i j ≡ true → before (cons t f) i j ≡ true
 is-inside t f i j e =
-    before-cons t f i j ∙ or-left (behind t f i j) (before f i j) (or-left (precedes t i j) (member i (activities t) && member j (activitiesOfAll f)) e)
+    before-cons t f i j ∙ or-left (behind t f i j) (before f i j)
+    (or-left (precedes t i j) (member i (activities t) && member j (activitiesOfAll f)) e)
 
-is-across : (t : Term) (f : Forest) (i j : ℕ) → member i (activities t) ≡ true → member j (activitiesOfAll f) ≡ true → before (cons t f) i j ≡ true
+is-across : (t : Term) (f : Forest) (i j : ℕ) → member i (activities t) ≡ true → member j (activitiesOfAll f) ≡ true
+    → before (cons t f) i j ≡ true
 is-across t f i j a b =
     before-cons t f i j
     ∙ or-left (behind t f i j) (before f i j)
@@ -63,7 +68,8 @@ both-right i j xs ys (a, b) = (member-right i xs ys a, member-right j xs ys b)
 mutual
   unfolding precedes activities
 
-  pub precedes-members : (t : Term) (i j : ℕ) → precedes t i j ≡ true → (member i (activities t) ≡ true) × (member j (activities t) ≡ true)
+  pub precedes-members : (t : Term) (i j : ℕ) → precedes t i j ≡ true
+      → (member i (activities t) ≡ true) × (member j (activities t) ≡ true)
   precedes-members (act k) i j e = absurd (false≢true e)
   precedes-members (seq f) i j e = before-members f i j e
   precedes-members (pll f) i j e = within-members f i j e
@@ -74,7 +80,8 @@ mutual
   before-members (cons t f) i j e =
       before-cases t f i j
       (λ h. both-left i j (activities t) (activitiesOfAll f) (precedes-members t i j h))
-      (λ a b. (member-left i (activities t) (activitiesOfAll f) a, member-right j (activities t) (activitiesOfAll f) b))
+      (λ a b.
+      (member-left i (activities t) (activitiesOfAll f) a, member-right j (activities t) (activitiesOfAll f) b))
       (λ h. both-right i j (activities t) (activitiesOfAll f) (before-members f i j h))
       e
 

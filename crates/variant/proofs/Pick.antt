@@ -4,7 +4,8 @@ use mathlib.Core.Bool.{Bool, true, false}
 use mathlib.Core.List.{List, [], _∷_, _++_, map}
 use mathlib.Core.Path.{_≡_, refl, sym, ap, ap₂, _∙_}
 use native.Mathlib.Decide.{decLt}
-use native.Mathlib.Nat.{zero-mul, mul-zero, suc-mul, div-eq-of-lt, mod-eq-of-lt, mod-lt, div-eq-sub-div, mod-eq-sub-mod, div-lt-iff-lt-mul}
+use native.Mathlib.Nat.{zero-mul, mul-zero, suc-mul, div-eq-of-lt, mod-eq-of-lt, mod-lt, div-eq-sub-div}
+use native.Mathlib.Nat.{mod-eq-sub-mod, div-lt-iff-lt-mul}
 use native.Mathlib.Numerals.{add-one}
 use native.Mathlib.Omega.{arith}
 use borrow.Author.Tests.{ltb-true, ltb-false}
@@ -14,25 +15,9 @@ use lib.Seq.{getD-append-add}
 use Rattle.term.specs.Term.{Term, Forest, act, seq, pll, xor, nil, cons}
 use Rattle.term.specs.Variants.{variants, combinations, alternatives, paired, variantCount}
 use Rattle.term.proofs.Counting.{variantCount-count, length-combinations}
-use Rattle.term.proofs.Model.{count, product, total}
+use Rattle.term.specs.Model.{count, product, total}
 use Rattle.variant.specs.Project.{variantAt}
-
-unfoldable mutual
-  pub pick : Term → ℕ → Term
-  pick (act i) v = act i
-  pick (seq f) v = seq (pickEach f v)
-  pick (pll f) v = pll (pickEach f v)
-  pick (xor f) v = pickOne f v
-
-  -- of each child, the first varying slowest
-  pub pickEach : Forest → ℕ → Forest
-  pickEach nil v = nil
-  pickEach (cons t f) v = cons (pick t (v / product f)) (pickEach f (v % product f))
-
-  -- of one child, the first one's before the second's
-  pub pickOne : Forest → ℕ → Term
-  pickOne nil v = act 0
-  pickOne (cons t f) v = elim (ltb v (count t)) [ true ↦ pick t v | false ↦ pickOne f (v - count t) ]
+use Rattle.variant.specs.Pick.{pick, pickEach, pickOne}
 
 -- In range, the default is never read.
 getD-any {ℓ} : {A : Type ℓ} (l : List A) (n : ℕ) (d e : A) → n < length l → getD l n d ≡ getD l n e
@@ -40,11 +25,13 @@ getD-any [] n d e h = absurd (omega arith)
 getD-any (x ∷ xs) zero d e h = refl
 getD-any (x ∷ xs) (suc n) d e h = getD-any xs n d e (omega arith)
 
-getD-mapped {ℓ κ} : {A : Type ℓ} {B : Type κ} (f : A → B) (l : List A) (n : ℕ) (d : A) (e : B) → n < length l → getD (map f l) n e ≡ f (getD l n d)
+getD-mapped {ℓ κ} : {A : Type ℓ} {B : Type κ} (f : A → B) (l : List A) (n : ℕ) (d : A) (e : B) → n < length l
+    → getD (map f l) n e ≡ f (getD l n d)
 getD-mapped f l n d e h = getD-any (map f l) n e (f d) (omega (arith, length-map l f)) ∙ List·getD-map f l n d
 
 -- The part of a list behind another.
-getD-behind {ℓ} : {A : Type ℓ} (xs ys : List A) (n : ℕ) (d : A) → length xs ≤ n → getD (xs ++ ys) n d ≡ getD ys (n - length xs) d
+getD-behind {ℓ} : {A : Type ℓ} (xs ys : List A) (n : ℕ) (d : A) → length xs ≤ n
+    → getD (xs ++ ys) n d ≡ getD ys (n - length xs) d
 getD-behind xs ys n d h = ap (λ (k : ℕ). getD (xs ++ ys) k d) (omega arith) ∙ getD-append-add xs ys (n - length xs) d
 
 pub pos-right : (a b v : ℕ) → v < a * b → 0 < b
@@ -69,7 +56,8 @@ paired-at (t ∷ ts) fs v h = go (paired-at ts fs (v - length fs)) (decLt v (len
     many : length firsts ≡ length fs
     many = length-map fs (cons t)
 
-    go : (v - n < length ts * n → getD (paired ts fs) (v - n) nil ≡ pairAt ts fs ((v - n) / n) ((v - n) % n)) → Dec (v < n)
+    go : (v - n < length ts * n → getD (paired ts fs) (v - n) nil ≡ pairAt ts fs ((v - n) / n) ((v - n) % n))
+        → Dec (v < n)
         → getD (firsts ++ paired ts fs) v nil ≡ pairAt (t ∷ ts) fs (v / n) (v % n)
     go below (yes l) =
         List·getD-append firsts (paired ts fs) nil v (omega (arith, many))
@@ -80,7 +68,8 @@ paired-at (t ∷ ts) fs v h = go (paired-at ts fs (v - length fs)) (decLt v (len
         getD-behind firsts (paired ts fs) v nil (omega (arith, many))
         ∙ ap (λ (k : ℕ). getD (paired ts fs) (v - k) nil) many
         ∙ below (omega (arith, suc-mul (length ts) n))
-        ∙ ap₂ (pairAt (t ∷ ts) fs) (sym (div-eq-sub-div pos (omega arith) ∙ add-one ((v - n) / n))) (sym (mod-eq-sub-mod (omega arith)))
+        ∙ ap₂ (pairAt (t ∷ ts) fs) (sym (div-eq-sub-div pos (omega arith) ∙ add-one ((v - n) / n)))
+        (sym (mod-eq-sub-mod (omega arith)))
 
 length-variants : (t : Term) → length (variants t) ≡ count t
 unfolding variantCount
@@ -90,7 +79,9 @@ length-variants t = variantCount-count t
 each-at : (t : Term) (f : Forest) (v : ℕ) → v < count t * product f
     → pairAt (variants t) (combinations f) (v / product f) (v % product f) ≡ getD (combinations (cons t f)) v nil
 unfolding variants
-each-at t f v h = rw (← length-combinations f) (sym (paired-at (variants t) (combinations f) v (rw (length-variants t, length-combinations f) h)))
+each-at t f v h =
+    rw (← length-combinations f)
+    (sym (paired-at (variants t) (combinations f) v (rw (length-variants t, length-combinations f) h)))
 
 abbrev pub choice : Bool → Term → Term → Term
 choice b x y = elim b [ true ↦ x | false ↦ y ]
@@ -114,8 +105,12 @@ mutual
 
   pub pick-is : (t : Term) (v : ℕ) → v < count t → pick t v ≡ variantAt t v
   pick-is (act i) v h = let z : 0 ≡ v = omega arith in ap (λ (k : ℕ). getD (act i ∷ []) k (act 0)) z
-  pick-is (seq f) v h = ap seq (pickEach-is f v h) ∙ sym (getD-mapped seq (combinations f) v nil (act 0) (omega (arith, length-combinations f)))
-  pick-is (pll f) v h = ap pll (pickEach-is f v h) ∙ sym (getD-mapped pll (combinations f) v nil (act 0) (omega (arith, length-combinations f)))
+  pick-is (seq f) v h =
+      ap seq (pickEach-is f v h)
+      ∙ sym (getD-mapped seq (combinations f) v nil (act 0) (omega (arith, length-combinations f)))
+  pick-is (pll f) v h =
+      ap pll (pickEach-is f v h)
+      ∙ sym (getD-mapped pll (combinations f) v nil (act 0) (omega (arith, length-combinations f)))
   pick-is (xor f) v h = pickOne-is f v h
 
   pub pickEach-is : (f : Forest) (v : ℕ) → v < product f → pickEach f v ≡ getD (combinations f) v nil
@@ -127,4 +122,5 @@ mutual
 
   pub pickOne-is : (f : Forest) (v : ℕ) → v < total f → pickOne f v ≡ getD (alternatives f) v (act 0)
   pickOne-is nil v h = absurd (omega arith)
-  pickOne-is (cons t f) v h = one-at t f v (λ l. pick-is t v l) (λ l. pickOne-is f (v - count t) l) h (ltb v (count t)) refl
+  pickOne-is (cons t f) v h =
+      one-at t f v (λ l. pick-is t v l) (λ l. pickOne-is f (v - count t) l) h (ltb v (count t)) refl

@@ -1,5 +1,5 @@
--- What a variant is made of: its activities are among the term's, its nodes no more, it has no x, and it is full if the
--- term is.
+-- What a variant is made of: its activities are among the term's, its nodes no more, it has no x, and it is full if
+-- the term is.
 use Prim.Native.Nat.{ℕ, suc, _+_, _-_, _/_, _%_, _≤_, _<_}
 use mathlib.Core.Bool.{Bool, true, false, _&&_, and-eq-true-iff}
 use mathlib.Core.List.{List, _++_}
@@ -9,16 +9,18 @@ use native.Mathlib.Omega.{arith}
 use borrow.Author.Tests.{ltb-true, ltb-false}
 use lib.Dec.{ltb}
 use lib.ListN.{length, length-append}
-use Rattle.bools.proofs.Bools.{both, and-left, and-right}
+use Rattle.base.proofs.Bools.{both, and-left, and-right}
 use Rattle.term.specs.Term.{Term, Forest, act, seq, pll, xor, nil, cons, size, nodes, nodesOfAll}
 use Rattle.term.specs.Variants.{activities, activitiesOfAll, member}
 use Rattle.term.specs.Reduced.{xorFree, xorFreeAll}
-use Rattle.term.proofs.Model.{count, product, total, full, fullAll}
+use Rattle.term.specs.Model.{count, product, total, full, fullAll}
 use Rattle.variant.proofs.Members.{member-left, member-right, member-either}
-use Rattle.variant.proofs.Pick.{pick, pickEach, pickOne, pos-right, choice}
+use Rattle.variant.specs.Pick.{pick, pickEach, pickOne}
+use Rattle.variant.proofs.Pick.{pos-right, choice}
 
 -- What holds of a term and each of its variants: by the forms of both, `Each` for an s or p, `One` for an x.
-pub record Kept (P : Term → Term → Type 0) (Each : Forest → Forest → Type 0) (One : Forest → Term → Type 0) : Type 0 where
+pub record Inherited (P : Term → Term → Type 0) (Each : Forest → Forest → Type 0)
+    (One : Forest → Term → Type 0) : Type 0 where
   pub of-act : (i : ℕ) → P (act i) (act i)
   pub of-seq : (f g : Forest) → Each f g → P (seq f) (seq g)
   pub of-pll : (f g : Forest) → Each f g → P (pll f) (pll g)
@@ -28,43 +30,47 @@ pub record Kept (P : Term → Term → Type 0) (Each : Forest → Forest → Typ
   pub here : (t u : Term) (f : Forest) → P t u → One (cons t f) u
   pub there : (t u : Term) (f : Forest) → One f u → One (cons t f) u
 
-module _ {P : Term → Term → Type 0} {Each : Forest → Forest → Type 0} {One : Forest → Term → Type 0} (k : Kept P Each One) where
+module _ {P : Term → Term → Type 0} {Each : Forest → Forest → Type 0} {One : Forest → Term → Type 0}
+    (k : Inherited P Each One) where
   either : (t : Term) (f : Forest) (v : ℕ) → v < count t + total f → (v < count t → P t (pick t v))
       → (v - count t < total f → One f (pickOne f (v - count t)))
       → (b : Bool) → ltb v (count t) ≡ b → One (cons t f) (choice b (pick t v) (pickOne f (v - count t)))
   either t f v h and-left rest true e = k .here t (pick t v) f (and-left (ltb-true v (count t) e))
-  either t f v h and-left rest false e = let l : count t ≤ v = ltb-false v (count t) e in k .there t (pickOne f (v - count t)) f (rest (omega arith))
+  either t f v h and-left rest false e =
+      let l : count t ≤ v = ltb-false v (count t) e in k .there t (pickOne f (v - count t)) f (rest (omega arith))
 
   mutual
     unfolding count pick
 
-    pub kept : (t : Term) (v : ℕ) → v < count t → P t (pick t v)
-    kept (act i) v h = k .of-act i
-    kept (seq f) v h = k .of-seq f (pickEach f v) (kept-each f v h)
-    kept (pll f) v h = k .of-pll f (pickEach f v) (kept-each f v h)
-    kept (xor f) v h = k .of-xor f (pickOne f v) (kept-one f v h)
+    pub inherited : (t : Term) (v : ℕ) → v < count t → P t (pick t v)
+    inherited (act i) v h = k .of-act i
+    inherited (seq f) v h = k .of-seq f (pickEach f v) (kept-each f v h)
+    inherited (pll f) v h = k .of-pll f (pickEach f v) (kept-each f v h)
+    inherited (xor f) v h = k .of-xor f (pickOne f v) (kept-one f v h)
 
     kept-each : (f : Forest) (v : ℕ) → v < product f → Each f (pickEach f v)
     kept-each nil v h = k .of-nil
     kept-each (cons t f) v h =
         let pos : 0 < product f = pos-right (count t) (product f) v h in
         k .of-cons t (pick t (v / product f)) f (pickEach f (v % product f))
-        (kept t (v / product f) (div-lt-iff-lt-mul pos .1 h))
+        (inherited t (v / product f) (div-lt-iff-lt-mul pos .1 h))
         (kept-each f (v % product f) (mod-lt v pos))
 
     kept-one : (f : Forest) (v : ℕ) → v < total f → One f (pickOne f v)
     kept-one nil v h = absurd (omega arith)
-    kept-one (cons t f) v h = either t f v h (λ l. kept t v l) (λ l. kept-one f (v - count t) l) (ltb v (count t)) refl
+    kept-one (cons t f) v h =
+        either t f v h (λ l. inherited t v l) (λ l. kept-one f (v - count t) l) (ltb v (count t)) refl
 
 -- The activities.
 abbrev Within : List ℕ → List ℕ → Type 0
 Within xs ys = (i : ℕ) → member i xs ≡ true → member i ys ≡ true
 
 within-both : (xs ys zs ws : List ℕ) → Within xs ys → Within zs ws → Within (xs ++ zs) (ys ++ ws)
-within-both xs ys zs ws f g i e = member-either i xs zs (λ m. member-left i ys ws (f i m)) (λ m. member-right i ys ws (g i m)) e
+within-both xs ys zs ws f g i e =
+    member-either i xs zs (λ m. member-left i ys ws (f i m)) (λ m. member-right i ys ws (g i m)) e
 
 activities-kept :
-    Kept
+    Inherited
     (λ t u. Within (activities u) (activities t))
     (λ f g. Within (activitiesOfAll g) (activitiesOfAll f))
     (λ f u. Within (activities u) (activitiesOfAll f))
@@ -81,8 +87,9 @@ activities-kept =
       there = λ t u f w i e. member-right i (activities t) (activitiesOfAll f) (w i e);
     }
 
-pub pick-activities : (t : Term) (v : ℕ) → v < count t → (i : ℕ) → member i (activities (pick t v)) ≡ true → member i (activities t) ≡ true
-pick-activities t v h = kept activities-kept t v h
+pub pick-activities : (t : Term) (v : ℕ) → v < count t → (i : ℕ) → member i (activities (pick t v)) ≡ true
+    → member i (activities t) ≡ true
+pick-activities t v h = inherited activities-kept t v h
 
 -- The nodes.
 length-cons : (t : Term) (f : Forest) → length (nodesOfAll (cons t f)) ≡ length (nodes t) + length (nodesOfAll f)
@@ -90,7 +97,7 @@ unfolding nodes
 length-cons t f = length-append (nodes t) (nodesOfAll f)
 
 nodes-kept :
-    Kept
+    Inherited
     (λ t u. length (nodes u) ≤ length (nodes t))
     (λ f g. length (nodesOfAll g) ≤ length (nodesOfAll f))
     (λ f u. length (nodes u) ≤ length (nodesOfAll f))
@@ -108,10 +115,10 @@ nodes-kept =
     }
 
 pub pick-nodes : (t : Term) (v : ℕ) → v < count t → length (nodes (pick t v)) ≤ length (nodes t)
-pick-nodes t v h = kept nodes-kept t v h
+pick-nodes t v h = inherited nodes-kept t v h
 
 -- No x.
-xorFree-kept : Kept (λ t u. xorFree u ≡ true) (λ f g. xorFreeAll g ≡ true) (λ f u. xorFree u ≡ true)
+xorFree-kept : Inherited (λ t u. xorFree u ≡ true) (λ f g. xorFreeAll g ≡ true) (λ f u. xorFree u ≡ true)
 unfolding xorFree
 xorFree-kept =
     record {
@@ -126,7 +133,7 @@ xorFree-kept =
     }
 
 pub pick-xorFree : (t : Term) (v : ℕ) → v < count t → xorFree (pick t v) ≡ true
-pick-xorFree t v h = kept xorFree-kept t v h
+pick-xorFree t v h = inherited xorFree-kept t v h
 
 -- Every group has a child.
 abbrev FullAs : Forest → Forest → Type 0
@@ -138,7 +145,7 @@ group-full f g (s, below) e =
     both (ap (ltb 0) s ∙ some) (below all)
 
 full-kept :
-    Kept
+    Inherited
     (λ t u. full t ≡ true → full u ≡ true)
     FullAs
     (λ f u. fullAll f ≡ true → full u ≡ true)
@@ -161,4 +168,4 @@ full-kept =
     }
 
 pub pick-full : (t : Term) (v : ℕ) → v < count t → full t ≡ true → full (pick t v) ≡ true
-pick-full t v h = kept full-kept t v h
+pick-full t v h = inherited full-kept t v h

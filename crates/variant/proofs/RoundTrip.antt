@@ -1,5 +1,5 @@
--- A variant of an accepted plan, written out, is an accepted plan again: its own only variant, with the same project, so
--- with the same schedules, and it writes the same bytes.
+-- A variant of an accepted plan, written out, is an accepted plan again: its own only variant, with the same project,
+-- so with the same schedules, and it writes the same bytes.
 use Prim.Native.Nat.{ℕ, zero, suc, _≤_, _<_}
 use mathlib.Core.Bool.{Bool, true, false, cond}
 use mathlib.Core.List.{List, [], _∷_}
@@ -8,38 +8,29 @@ use mathlib.Core.Path.{_≡_, sym, ap, _∙_, subst}
 use native.Mathlib.Omega.{arith}
 use lib.Dec.{eqb}
 use lib.ListN.{length, getD}
-use Rattle.plan.specs.Limits.{longest, mostNodes}
-use Rattle.plan.specs.Plan.{Plan, isNode, every, isPlan}
-use Rattle.format.specs.Parse.{parse, holds}
+use Rattle.plan.specs.Limits.{mostNodes}
+use Rattle.plan.specs.Plan.{Plan, isNode, isPlan}
+use Rattle.base.specs.Lists.{every}
+use Rattle.format.specs.Parse.{holds}
 use Rattle.format.specs.Text.{text}
-use Rattle.format.proofs.Format.{text-parses}
 use Rattle.format.proofs.Plans.{Sound, plan-sound, sound-plan}
-use Rattle.format.proofs.Short.{text-short}
 use Rattle.format.proofs.Tests.{between-facts, facts-between}
 use Rattle.term.specs.Term.{Term, act, nodes, termOf}
 use Rattle.term.specs.Variants.{variants, variantCount, activities, member, repeats, some-of, twice}
 use Rattle.term.specs.Reduced.{xorFree}
-use Rattle.term.proofs.Model.{count, full}
+use Rattle.term.specs.Valid.{HasVariant}
+use Rattle.term.specs.Model.{count, full}
 use Rattle.term.proofs.Counting.{variantCount-count}
 use Rattle.term.proofs.Reading.{termOf-nodes, nodes-termOf, full-termOf}
-use Rattle.schedule.specs.Project.{Project}
-use Rattle.schedule.specs.Schedule.{Starts, feasible, active, makespan}
 use Rattle.variant.specs.Project.{activityAt, variantAt, projectOf}
 use Rattle.variant.specs.Written.{dissolved, variantPlan, written}
 use Rattle.variant.proofs.Members.{or-none}
-use Rattle.variant.proofs.Pick.{pick, pick-is}
+use Rattle.variant.specs.Pick.{pick}
+use Rattle.variant.proofs.Pick.{pick-is}
 use Rattle.variant.proofs.Picked.{pick-activities, pick-nodes, pick-xorFree, pick-full}
-use Rattle.variant.proofs.Dissolve.{
-  dissolved-activities,
-  dissolved-precedes,
-  dissolved-nodes,
-  dissolved-xorFree,
-  dissolved-full,
-  dissolved-again,
-  xorFree-variants,
-  xorFree-count,
-  xorFree-only,
-}
+use Rattle.variant.proofs.Dissolve.{dissolved-activities, dissolved-precedes, dissolved-nodes}
+use Rattle.variant.proofs.Dissolve.{dissolved-xorFree, dissolved-full, dissolved-again, xorFree-variants}
+use Rattle.variant.proofs.Dissolve.{xorFree-count, xorFree-only}
 use Rattle.variant.proofs.Fit.{nodes-below, nodes-some, nodes-fit}
 
 -- What holds of any term in the place of the variant: the project is the same, and so are the bytes written again.
@@ -61,18 +52,10 @@ same-project p w =
       begun = λ i. 0;
     }
 
-pub same-feasible : (p : Plan) (w : Term) (S : Starts) → feasible (projectOf (variantPlan p w) (dissolved w)) S ≡ feasible (projectOf p w) S
-same-feasible p w S = ap (λ (q : Project). feasible q S) (same-project p w)
-
-pub same-active : (p : Plan) (w : Term) (S : Starts) → active (projectOf (variantPlan p w) (dissolved w)) S ≡ active (projectOf p w) S
-same-active p w S = ap (λ (q : Project). active q S) (same-project p w)
-
-pub same-makespan : (p : Plan) (w : Term) (S : Starts) → makespan (projectOf (variantPlan p w) (dissolved w)) S ≡ makespan (projectOf p w) S
-same-makespan p w S = ap (λ (q : Project). makespan q S) (same-project p w)
-
 pub variantPlan-again : (p : Plan) (w : Term) → variantPlan (variantPlan p w) (dissolved w) ≡ variantPlan p w
 unfolding variantPlan
-variantPlan-again p w = λ k. record { resources = p .resources; activities = p .activities; nodes = nodes (dissolved-again w k) }
+variantPlan-again p w =
+    λ k. record { resources = p .resources; activities = p .activities; nodes = nodes (dissolved-again w k) }
 
 pub written-again : (p : Plan) (w : Term) → written (variantPlan p w) (dissolved w) ≡ written p w
 unfolding written
@@ -82,26 +65,20 @@ pub reads-dissolved : (p : Plan) (w : Term) → termOf (variantPlan p w .nodes) 
 unfolding variantPlan
 reads-dissolved p w = termOf-nodes (dissolved w)
 
--- Variant v of an accepted plan whose term is t.
-pub record Chosen (p : Plan) (t : Term) (v : ℕ) : Type 0 where
-  pub valid : isPlan p ≡ true
-  pub reads : termOf (p .nodes) ≡ some t
-  pub once : twice t ≡ false
-  pub below : v < variantCount t
-
 -- A test that fails on every member fails on each.
-none-of {ℓ} : {A : Type ℓ} (q : A → Bool) (xs : List A) (n : ℕ) (d : A) → some-of q xs ≡ false → n < length xs → q (getD xs n d) ≡ false
+none-of {ℓ} : {A : Type ℓ} (q : A → Bool) (xs : List A) (n : ℕ) (d : A) → some-of q xs ≡ false → n < length xs
+    → q (getD xs n d) ≡ false
 unfolding some-of
 none-of q [] n d e h = absurd (omega arith)
 none-of q (x ∷ xs) zero d e h = or-none (q x) (some-of q xs) e .0
 none-of q (x ∷ xs) (suc n) d e h = none-of q xs n d (or-none (q x) (some-of q xs) e .1) (omega arith)
 
-module _ (p : Plan) (t : Term) (v : ℕ) (c : Chosen p t v) where
+module _ (p : Plan) (t : Term) (v : ℕ) (c : HasVariant p t v) where
   counted : v < count t
   counted = omega (arith, c .below, variantCount-count t)
 
   sound : Sound p
-  sound = plan-sound p (c .valid)
+  sound = plan-sound p (c .valid .ranges)
 
   -- What holds of the term that is picked holds of variant v.
   of-variant : (P : Term → Type 0) → P (pick t v) → P (variantAt t v)
@@ -112,24 +89,28 @@ module _ (p : Plan) (t : Term) (v : ℕ) (c : Chosen p t v) where
 
   pub variant-full : full (variantAt t v) ≡ true
   variant-full =
-      of-variant (λ w. full w ≡ true) (pick-full t v counted (full-termOf (p .nodes) (length (p .activities)) t (sound .nodes) (c .reads)))
+      of-variant (λ w. full w ≡ true)
+      (pick-full t v counted (full-termOf (p .nodes) (length (p .activities)) t (sound .nodes) (c .valid .term)))
 
   pub variant-once : repeats (activities (variantAt t v)) ≡ false
   unfolding twice variantCount
-  variant-once = none-of (λ w. repeats (activities w)) (variants t) v (act 0) (c .once) (c .below)
+  variant-once = none-of (λ w. repeats (activities w)) (variants t) v (act 0) (c .valid .once) (c .below)
 
   -- The activities of the variant are activities of the plan.
   pub variant-below : (i : ℕ) → member i (activities (variantAt t v)) ≡ true → i < length (p .activities)
   variant-below i m =
       let n = length (p .activities) in
-      nodes-below t n (ap (every (isNode n)) (nodes-termOf (p .nodes) t (c .reads)) ∙ sound .nodes) i
-      (of-variant (λ w. member i (activities w) ≡ true → member i (activities t) ≡ true) (pick-activities t v counted i) m)
+      nodes-below t n (ap (every (isNode n)) (nodes-termOf (p .nodes) t (c .valid .term)) ∙ sound .nodes) i
+      (of-variant (λ w. member i (activities w) ≡ true → member i (activities t) ≡ true)
+      (pick-activities t v counted i) m)
 
   few-nodes : length (nodes (dissolved (variantAt t v))) ≤ mostNodes
   few-nodes =
-      let most : length (p .nodes) ≤ mostNodes = between-facts 1 mostNodes (length (p .nodes)) (sound .nodeCount) .1 in
-      let fewer : length (nodes (variantAt t v)) ≤ length (nodes t) = of-variant (λ w. length (nodes w) ≤ length (nodes t)) (pick-nodes t v counted) in
-      omega (arith, ap length (nodes-termOf (p .nodes) t (c .reads)), dissolved-nodes (variantAt t v))
+      let most : length (p .nodes) ≤ mostNodes =
+      between-facts 1 mostNodes (length (p .nodes)) (sound .nodeCount) .1 in
+      let fewer : length (nodes (variantAt t v)) ≤ length (nodes t) =
+      of-variant (λ w. length (nodes w) ≤ length (nodes t)) (pick-nodes t v counted) in
+      omega (arith, ap length (nodes-termOf (p .nodes) t (c .valid .term)), dissolved-nodes (variantAt t v))
 
   -- Written out, the variant is a plan again,
   pub variant-plan : isPlan (variantPlan p (variantAt t v)) ≡ true
@@ -147,15 +128,6 @@ module _ (p : Plan) (t : Term) (v : ℕ) (c : Chosen p t v) where
         nodes = nodes-fit u (length (p .activities)) (dissolved-full w variant-full) below few-nodes;
       })
 
-  -- which its bytes hold, and no accepted file is longer;
-  pub written-parses : parse (written p (variantAt t v)) ≡ holds (variantPlan p (variantAt t v))
-  unfolding written
-  written-parses = text-parses (variantPlan p (variantAt t v)) variant-plan
-
-  pub written-short : length (written p (variantAt t v)) ≤ longest
-  unfolding written
-  written-short = text-short (variantPlan p (variantAt t v)) variant-plan
-
   -- and it has one variant, with no activity twice: itself.
   dissolved-free : xorFree (dissolved (variantAt t v)) ≡ true
   dissolved-free = dissolved-xorFree (variantAt t v) ∙ variant-xorFree
@@ -163,7 +135,12 @@ module _ (p : Plan) (t : Term) (v : ℕ) (c : Chosen p t v) where
   pub variant-once-again : twice (dissolved (variantAt t v)) ≡ false
   unfolding twice some-of
   variant-once-again =
-      rw (xorFree-variants (dissolved (variantAt t v)) dissolved-free, dissolved-activities (variantAt t v), variant-once)
+      rw (
+        xorFree-variants (dissolved (variantAt t v)) dissolved-free,
+        dissolved-activities
+            (variantAt t v),
+        variant-once,
+      )
 
   pub variant-count : variantCount (dissolved (variantAt t v)) ≡ 1
   variant-count = xorFree-count (dissolved (variantAt t v)) dissolved-free

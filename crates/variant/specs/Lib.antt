@@ -1,4 +1,9 @@
--- One variant of a plan: its precedence, its project, and how it is written out.
+-- One variant of a plan: its precedence, its project, its sessions, its tables, and how it is written out.
 pub mod Precedence
 pub mod Project
+pub mod Timetable
+pub mod Pairs
+pub mod Words
 pub mod Written
+pub mod Tables
+pub mod Pick

@@ -1,6 +1,6 @@
 -- The order that a chosen term puts on its activities: i precedes j if some s has i under an earlier child than j.
 use Prim.Native.Nat.{ℕ}
-use mathlib.Core.Bool.{Bool, true, false, _&&_, _||_}
+use mathlib.Core.Bool.{Bool, false, _&&_, _||_}
 use Rattle.term.specs.Term.{Term, Forest, act, seq, pll, xor, nil, cons}
 use Rattle.term.specs.Variants.{activities, activitiesOfAll, member}
 

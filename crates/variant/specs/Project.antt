@@ -1,8 +1,7 @@
 -- The project of a variant in the edition in force: one unit of each resource, of which an activity holds its own; no
 -- gaps; every activity free from tick 0 on.
 use Prim.Native.Nat.{ℕ}
-use mathlib.Core.Bool.{Bool, true, false, cond}
-use mathlib.Core.List.{List}
+use mathlib.Core.Bool.{true, cond}
 use lib.Dec.{eqb}
 use lib.ListN.{length, getD}
 use Rattle.plan.specs.Plan.{Plan, Activity}

@@ -12,15 +12,15 @@ use Rattle.write.specs.declared.WriteAnswer.{WriteAnswer}
 use Rattle.write.specs.declared.WriteAnswer.the-variants as Write
 use Rattle.inspect.specs.declared.CheckAnswer.{CheckAnswer}
 use Rattle.inspect.specs.declared.CheckAnswer.the-variants as Check
-use Rattle.listing.specs.Listed.{ListOf}
-use Rattle.listing.specs.Shortest.{BestOf}
-use Rattle.listing.specs.declared.Best.{Best}
-use Rattle.listing.specs.declared.BestAnswer.{BestAnswer}
-use Rattle.listing.specs.declared.BestAnswer.the-variants as Shortest
-use Rattle.listing.specs.declared.CountAnswer.{CountAnswer}
-use Rattle.listing.specs.declared.CountAnswer.the-variants as Count
-use Rattle.listing.specs.declared.ListAnswer.{ListAnswer}
-use Rattle.listing.specs.declared.ListAnswer.the-variants as Listing
+use Rattle.answers.specs.Listed.{ListOf}
+use Rattle.answers.specs.Shortest.{BestOf}
+use Rattle.answers.specs.declared.Best.{Best}
+use Rattle.answers.specs.declared.BestAnswer.{BestAnswer}
+use Rattle.answers.specs.declared.BestAnswer.the-variants as Shortest
+use Rattle.answers.specs.declared.CountAnswer.{CountAnswer}
+use Rattle.answers.specs.declared.CountAnswer.the-variants as Count
+use Rattle.answers.specs.declared.ListAnswer.{ListAnswer}
+use Rattle.answers.specs.declared.ListAnswer.the-variants as Listing
 
 abbrev pub refusalCells : Refusal → List ℕ
 refusalCells r = numberOf r ∷ figureOf r ∷ 0 ∷ 0 ∷ []
@@ -55,16 +55,16 @@ abbrev pub startsKept : BestAnswer → List ℕ → List ℕ → List ℕ
 startsKept (Shortest.Found variant makespan count) found before = found
 startsKept (Shortest.Refused r) found before = before
 
-pub record Writes (s : List ℕ) (v : ℕ) (before after out : List ℕ) : Type 0 where
+pub record WriteLeaves (s : List ℕ) (v : ℕ) (before after out : List ℕ) : Type 0 where
   pub cells : out ≡ writeCells (writeOf s v before .answer)
   pub area : after ≡ writeOf s v before .area
 
-pub record Lists (s : List ℕ) (cap : ℕ) (before after out : List ℕ) : Type 0 where
+pub record ListLeaves (s : List ℕ) (cap : ℕ) (before after out : List ℕ) : Type 0 where
   pub answer : ListAnswer
   pub listing : ListOf s cap before answer after
   pub cells : out ≡ listCells answer
 
-pub record Finds (s : List ℕ) (cap : ℕ) (before after out : List ℕ) : Type 0 where
+pub record BestLeaves (s : List ℕ) (cap : ℕ) (before after out : List ℕ) : Type 0 where
   pub best : Best
   pub finding : BestOf s cap best
   pub cells : out ≡ bestCells (best .answer)

@@ -1,14 +1,15 @@
-// The calls for C and Rust, kept to numbers and slices. Each fills `out`: 0 and the values on success, else the refusal's
-// number and figure.
+// The calls for C and Rust, kept to numbers and slices. Each fills `out`: 0 and the values on success, else the
+// refusal's number and figure.
 ghost use mathlib.Core.Path.{_≡_};
 ghost use Rattle.read.specs.Answer.{readOf};
 ghost use Rattle.inspect.specs.Answer.{checkOf};
-ghost use Rattle.listing.specs.Count.{countOf};
-ghost use Rattle.vialbluff.specs.Cells.{refusalCells, readCells, writeCells, checkCells, countCells, listCells, bestCells, startsKept, Writes, Lists, Finds};
+ghost use Rattle.answers.specs.Count.{countOf};
+ghost use Rattle.vialbluff.specs.Cells.{refusalCells, readCells, writeCells, checkCells, countCells, listCells};
+ghost use Rattle.vialbluff.specs.Cells.{bestCells, startsKept, WriteLeaves, ListLeaves, BestLeaves};
+use answers::BestAnswer;
+use answers::CountAnswer;
+use answers::ListAnswer;
 use inspect::CheckAnswer;
-use listing::BestAnswer;
-use listing::CountAnswer;
-use listing::ListAnswer;
 use plan::MOST_ACTS;
 use plan::Refusal;
 use read::ReadAnswer;
@@ -106,7 +107,8 @@ pub extern "C" fn vialbluff_read(file: &[u8], out: &mut [u64; 4])
 
 #[no_mangle]
 pub extern "C" fn vialbluff_write(file: &[u8], variant: u32, area: &mut [u8], out: &mut [u64; 4])
-    ensures { λ _. ⌜ Writes (now (file .entry)) variant (now (area .entry)) (now (area .exit)) (now (out .exit)) ⌝ }
+    ensures { λ _.
+        ⌜ WriteLeaves (now (file .entry)) variant (now (area .entry)) (now (area .exit)) (now (out .exit)) ⌝ }
 {
     *out = of_write(write::write(file, variant, area));
 }
@@ -133,7 +135,7 @@ pub extern "C" fn vialbluff_count(file: &[u8], cap: u32, out: &mut [u64; 4])
 
 #[no_mangle]
 pub extern "C" fn vialbluff_list(file: &[u8], cap: u32, area: &mut [u16], out: &mut [u64; 4])
-    ensures { λ _. ⌜ Lists (now (file .entry)) cap (now (area .entry)) (now (area .exit)) (now (out .exit)) ⌝ }
+    ensures { λ _. ⌜ ListLeaves (now (file .entry)) cap (now (area .entry)) (now (area .exit)) (now (out .exit)) ⌝ }
 {
     *out = of_list(calls::list(file, cap, area));
 }
@@ -145,7 +147,7 @@ pub extern "C" fn vialbluff_best(
     starts: &mut [u16; MOST_ACTS],
     out: &mut [u64; 4],
 )
-    ensures { λ _. ⌜ Finds (now (file .entry)) cap (now (starts .entry)) (now (starts .exit)) (now (out .exit)) ⌝ }
+    ensures { λ _. ⌜ BestLeaves (now (file .entry)) cap (now (starts .entry)) (now (starts .exit)) (now (out .exit)) ⌝ }
 {
     let best = calls::best(file, cap);
     let answer = best.answer;

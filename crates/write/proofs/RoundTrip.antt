@@ -1,11 +1,11 @@
--- A variant written out and read back: an accepted plan file with one variant, which has the same activities, the same
--- precedence and the same schedules, and which is written out as the same bytes.
-use Prim.Native.Nat.{ℕ, _≤_, _<_}
+-- A variant written out and read back: an accepted plan file with one variant, which has the same activities, the
+-- same precedence and the same schedules, and which is written out as the same bytes.
+use Prim.Native.Nat.{ℕ, _<_}
 use native.Mathlib.Omega.{arith}
 use mathlib.Core.Bool.{Bool, true, false}
-use mathlib.Core.List.{List, _++_}
+use mathlib.Core.List.{List}
 use mathlib.Core.Path.{_≡_, refl, sym, ap, _∙_, subst}
-use borrow.Author.Tests.{lt-ltb, le-leb, ltb-true}
+use borrow.Author.Tests.{lt-ltb, ltb-true}
 use lib.Dec.{leb, ltb}
 use lib.ListN.{length, take, drop}
 use lib.Seq.{take-at}
@@ -19,19 +19,13 @@ use Rattle.variant.specs.Precedence.{precedes}
 use Rattle.variant.specs.Project.{variantAt, projectOf}
 use Rattle.variant.specs.Written.{dissolved, variantPlan, written}
 use Rattle.variant.proofs.Dissolve.{dissolved-activities, dissolved-precedes}
-use Rattle.variant.proofs.RoundTrip.{
-  Chosen,
-  same-project,
-  written-again,
-  reads-dissolved,
-  variant-plan,
-  variant-once-again,
-  variant-count,
-  variant-only,
-}
-use Rattle.read.specs.Judge.{Verdict, accepts, refuses, judge}
-use Rattle.read.proofs.Accepts.{accepted-valid, valid-accepted}
-use Rattle.write.specs.Answer.{Outcome, placed, writeVariant, writeBy, writeOf}
+use Rattle.term.specs.Valid.{HasVariant}
+use Rattle.variant.proofs.RoundTrip.{same-project, written-again, reads-dissolved, variant-plan, variant-once-again}
+use Rattle.variant.proofs.RoundTrip.{variant-count, variant-only}
+use Rattle.judge.specs.Judge.{Verdict, accepts, refuses, judge}
+use Rattle.judge.proofs.Accepts.{accepted-valid, valid-accepted}
+use Rattle.write.specs.Answer.{Outcome, placedBy, writeVariant, writeBy, writeOf}
+use Rattle.write.specs.RoundTrip.{RoundTrip}
 use Rattle.write.specs.Steps.{placedIn}
 use Rattle.write.specs.declared.WriteAnswer.the-variants.{Written, Refused}
 
@@ -47,10 +41,10 @@ bytesOf p t v = written p (variantAt t v)
 
 -- The bytes of variant v of an accepted file s
 module _ (s : List ℕ) (p : Plan) (t : Term) (v : ℕ) (e : judge s ≡ accepts p t) (l : v < variantCount t) where
-  chosen : Chosen p t v
+  chosen : HasVariant p t v
   chosen =
       let h = accepted-valid s p t e .0 in
-      record { valid = h .ranges; reads = h .term; once = h .once; below = l }
+      record { valid = h; below = l }
 
   -- are accepted, as the plan of the variant;
   pub written-accepted : judge (bytesOf p t v) ≡ accepts (planBack p t v) (termBack t v)
@@ -81,7 +75,9 @@ module _ (s : List ℕ) (p : Plan) (t : Term) (v : ℕ) (e : judge s ≡ accepts
   pub written-project : projectOf (planBack p t v) (variantAt (termBack t v) 0) ≡ projectOf p (variantAt t v)
   written-project = ap (projectOf (planBack p t v)) only ∙ same-project p (variantAt t v)
 
-  pub written-feasible : (S : Starts) → feasible (projectOf (planBack p t v) (variantAt (termBack t v) 0)) S ≡ feasible (projectOf p (variantAt t v)) S
+  pub written-feasible : (S : Starts)
+      → feasible (projectOf (planBack p t v) (variantAt (termBack t v) 0)) S ≡ feasible (projectOf p (variantAt t v))
+      S
   written-feasible S = ap (λ (q : Project). feasible q S) written-project
 
   -- WRITE places the bytes in an area,
@@ -92,36 +88,14 @@ module _ (s : List ℕ) (p : Plan) (t : Term) (v : ℕ) (e : judge s ≡ accepts
   bytes-again : bytesOf (planBack p t v) (termBack t v) 0 ≡ bytesOf p t v
   bytes-again = ap (written (planBack p t v)) only ∙ written-again p (variantAt t v)
 
-  -- and the same bytes for variant 0 of them, whatever the area is and what it holds:
+  -- and the same bytes for variant 0 of them, whatever the area is and what it holds.
   pub writes-again : (area : List ℕ) → writeOf (bytesOf p t v) 0 area ≡ writeOf s v area
   unfolding writeOf
   writes-again area =
       let one : 0 < variantCount (termBack t v) = omega (arith, written-count) in
       rw (written-accepted, lt-ltb 0 (variantCount (termBack t v)) one, bytes-again) (sym (writes area))
 
-  -- where it is long enough they stand at its front, and the rest of it is as it was.
-  pub writes-same-bytes :
-      (area : List ℕ) → length (bytesOf p t v) ≤ length area
-      → writeOf (bytesOf p t v) 0 area
-      ≡ record { answer = Written (length (bytesOf p t v)); area = bytesOf p t v ++ drop (length (bytesOf p t v)) area }
-  writes-same-bytes area h = writes-again area ∙ writes area ∙ rw (le-leb (length (bytesOf p t v)) (length area) h)
-
--- The same said of WRITE's outcome alone, for the bytes that it wrote as variant v of the file s.
-pub record RoundTrip (s : List ℕ) (v : ℕ) (bytes : List ℕ) : Type 0 where
-  pub plan : Plan
-  pub term : Term
-  pub accepted : judge s ≡ accepts plan term
-  pub below : v < variantCount term
-  pub plan-back : Plan
-  pub term-back : Term
-  pub accepted-back : judge bytes ≡ accepts plan-back term-back
-  pub one-variant : variantCount term-back ≡ 1
-  pub same-activities : activities (variantAt term-back 0) ≡ activities (variantAt term v)
-  pub same-precedence : (i j : ℕ) → precedes (variantAt term-back 0) i j ≡ precedes (variantAt term v) i j
-  pub same-project : projectOf plan-back (variantAt term-back 0) ≡ projectOf plan (variantAt term v)
-  pub same-schedules : (S : Starts) → feasible (projectOf plan-back (variantAt term-back 0)) S ≡ feasible (projectOf plan (variantAt term v)) S
-  pub same-bytes : (area : List ℕ) → writeOf bytes 0 area ≡ writeOf s v area
-
+-- The same said of WRITE's outcome alone.
 refused-not-written : {A : Type 0} {r : Refusal} {n : ℕ} → Refused r ≡ Written n → A
 refused-not-written e = absurd (let z : _≡_ {A = ℕ} 0 1 = cc in omega arith)
 
@@ -132,14 +106,15 @@ module _ (s : List ℕ) (v : ℕ) (area : List ℕ) (n : ℕ) (after : List ℕ)
   abbrev Left : Outcome → Type 0
   Left o = o ≡ record { answer = Written n; area = after }
 
-  bytes-placed : (fits : Bool) (bytes : List ℕ) → Left (placed fits bytes area) → bytes ≡ take n after
+  bytes-placed : (fits : Bool) (bytes : List ℕ) → Left (placedBy fits bytes area) → bytes ≡ take n after
   bytes-placed true bytes h =
       let size = same-size (ap (λ (o : Outcome). o .answer) h) in
       sym (take-at bytes (drop (length bytes) area) n size) ∙ ap (λ (o : Outcome). take n (o .area)) h
   bytes-placed false bytes h = refused-not-written (ap (λ (o : Outcome). o .answer) h)
 
   variant-written :
-      (b : Bool) (p : Plan) (t : Term) → ltb v (variantCount t) ≡ b → judge s ≡ accepts p t → Left (writeVariant b p t v area)
+      (b : Bool) (p : Plan) (t : Term) → ltb v (variantCount t) ≡ b → judge s ≡ accepts p t → Left
+      (writeVariant b p t v area)
       → RoundTrip s v (take n after)
   variant-written false p t eb e h = refused-not-written (ap (λ (o : Outcome). o .answer) h)
   variant-written true p t eb e h =

@@ -1,3 +1,4 @@
--- What WRITE answers and leaves in the area, and what its steps do.
+-- What WRITE answers and leaves in the area, how it reads back, and what its steps do.
 pub mod Answer
+pub mod RoundTrip
 pub mod Steps

@@ -1,13 +1,14 @@
 // WRITE: a variant of a plan, written out as a plan file.
 ghost use Prim.Native.Nat.{_≤_};
 ghost use mathlib.Core.Path.{_≡_};
-ghost use mathlib.Core.Option.{some};
 ghost use Rattle.plan.specs.Limits.{mostActs, mostNodes};
 ghost use Rattle.plan.specs.Plan.{planOf};
 ghost use Rattle.format.specs.Text.{text};
-ghost use Rattle.term.specs.Term.{Term, termOf};
+ghost use Rattle.term.specs.Term.{Term};
+ghost use Rattle.judge.specs.Campaign.{HoldsVariant};
 ghost use Rattle.write.specs.Answer.{writeOf};
-ghost use Rattle.write.specs.Steps.{HasVariant, IsVariant, placedIn};
+ghost use Rattle.write.specs.Steps.{HoldsVariantPlan, placedIn};
+use judge::Campaign;
 use parser::Verdict;
 use plan::Refusal;
 use plan::Tables;
@@ -18,26 +19,26 @@ pub enum WriteAnswer {
     Refused(Refusal),
 }
 
-// The tables of variant v written out: the same resources and activities, and the chosen nodes.
-fn variant_of(tables: Tables, v: u32) -> Tables
-    requires { ⌜ HasVariant tables v ⌝ }
-    ensures { λ r. ⌜ ((t : Term) → termOf (planOf tables .nodes) ≡ some t → IsVariant tables t v r) ⌝ }
+// The tables of variant v written out: the same resources and activities, and the variant's nodes.
+fn variant_of(campaign: Campaign, v: u32) -> Tables
+    requires { ⌜ ((t : Term) × HoldsVariant campaign t v) ⌝ }
+    ensures { λ r. ⌜ ((t : Term) → HoldsVariant campaign t v → HoldsVariantPlan (campaign .tables) t v r) ⌝ }
 {
+    let tables = campaign.tables;
+    let spans = campaign.spans;
     let letter = tables.letter;
     let number = tables.number;
-    let nodes = tables.nodes;
-    let spans = chosen::spans_of(letter, number, nodes);
-    let chosen = chosen::choose(letter, number, nodes, spans, v);
+    let picked = pick::pick(letter, number, tables.nodes, spans, v);
     let resource = tables.resource;
     let duration = tables.duration;
-    let letter = chosen.letter;
-    let number = chosen.number;
+    let letter = picked.letter;
+    let number = picked.number;
     Tables {
         resources: tables.resources,
         acts: tables.acts,
         resource,
         duration,
-        nodes: chosen.nodes,
+        nodes: picked.nodes,
         letter,
         number,
     }
@@ -63,13 +64,13 @@ pub fn write(file: &[u8], v: u32, area: &mut [u8]) -> WriteAnswer
         ⌜ record { answer = r; area = now (area .exit) }
         ≡ writeOf (now (file .entry)) v (now (area .entry)) ⌝ }
 {
-    let judged = read::judge(file);
+    let judged = judge::judge(file);
     let verdict = judged.verdict;
-    let tables = judged.tables;
+    let campaign = judged.campaign;
     match verdict {
         Verdict::Accepted => {
-            if v < judged.variants {
-                write_plan(variant_of(tables, v), area)
+            if v < campaign.variants {
+                write_plan(variant_of(campaign, v), area)
             } else {
                 WriteAnswer::Refused(Refusal::NoSuchVariant)
             }

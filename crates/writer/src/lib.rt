@@ -1,15 +1,15 @@
-// Writes the text of a plan file into a lent area, in one pass. A byte that would stand past the area's end is counted
-// and not stored, so that the pass over an empty area measures the text. Places are required to be far below the
-// largest number, so that no sum wraps.
-ghost use Prim.Native.Nat.{ℕ, _+_, _≤_, _<_, _^_};
+// Writes the text of a plan file into a lent area, in one pass. A byte that would stand past the area's end is
+// counted and not stored, so that the pass over an empty area measures the text. Places are required to be far below
+// the largest number, so that no sum wraps.
+ghost use Prim.Native.Nat.{_+_, _≤_, _<_, _^_};
 ghost use mathlib.Core.Path.{_≡_};
 ghost use mathlib.Core.List.{[], _∷_};
 ghost use lib.ListN.{length, take};
-ghost use Rattle.plan.specs.Limits.{mostDigits, mostActs, mostNodes, actForm, nodeForm};
+ghost use Rattle.plan.specs.Limits.{mostDigits, mostActs, mostNodes, nodeForm};
 ghost use Rattle.plan.specs.Plan.{letterOf, nodeOf, valueOf, activitiesOf, nodesOf, planOf};
-ghost use Rattle.format.specs.Lines.{written, filled};
+ghost use Rattle.format.specs.Lines.{numeral, filled};
 ghost use Rattle.format.specs.Text.{actLines, nodeLines, text};
-ghost use Rattle.writer.specs.Wrote.{Wrote, WrotePiece, LettersFit, Holds};
+ghost use Rattle.writer.specs.Wrote.{Wrote, WrotePiece, LettersFit, HoldsText};
 use plan::MOST_ACTS;
 use plan::MOST_NODES;
 use plan::Tables;
@@ -41,7 +41,7 @@ fn digit_of(n: u16) -> u8
 // The decimal digits of a number, the most significant first.
 fn put_value(area: &mut [u8], at: usize, n: u16) -> usize
     requires { ⌜ at < 10000 ⌝ }
-    ensures { λ r. ⌜ Wrote (now (area .entry)) at (written mostDigits n) r (now (area .exit)) ⌝ }
+    ensures { λ r. ⌜ Wrote (now (area .entry)) at (numeral mostDigits n) r (now (area .exit)) ⌝ }
 {
     if n < 10 {
         return put_byte(area, at, digit_of(n));
@@ -80,7 +80,8 @@ fn put_piece(area: &mut [u8], line: Line, b: u8) -> Line
 
 fn put_line(area: &mut [u8], at: usize, form: &[u8], first: u16, second: u16) -> usize
     requires { ⌜ (at < 9000) × (length (now form) < 100) × LettersFit (now form) first second ⌝ }
-    ensures { λ r. ⌜ Wrote (now (area .entry)) at (filled (now (form .entry)) (first ∷ second ∷ [])) r (now (area .exit)) ⌝ }
+    ensures { λ r.
+        ⌜ Wrote (now (area .entry)) at (filled (now (form .entry)) (first ∷ second ∷ [])) r (now (area .exit)) ⌝ }
 {
     let mut line = Line { at, first, second };
     let mut i = 0;
@@ -89,13 +90,6 @@ fn put_line(area: &mut [u8], at: usize, form: &[u8], first: u16, second: u16) ->
         i += 1;
     }
     line.at
-}
-
-fn put_activity(area: &mut [u8], at: usize, resource: u16, duration: u16) -> usize
-    requires { ⌜ at < 9000 ⌝ }
-    ensures { λ r. ⌜ Wrote (now (area .entry)) at (filled actForm (resource ∷ duration ∷ [])) r (now (area .exit)) ⌝ }
-{
-    put_line(area, at, b"act=#,#\n", resource, duration)
 }
 
 fn put_activities(
@@ -113,21 +107,9 @@ fn put_activities(
 {
     let mut next = at;
     for i in 0..acts {
-        next = put_activity(area, next, resource[i], duration[i]);
+        next = put_line(area, next, &plan::ACT_FORM, resource[i], duration[i]);
     }
     next
-}
-
-// The letter of a node: there is no other than these four.
-fn letter_of(letter: u8) -> u8
-    ensures { λ r. ⌜ ((n : ℕ) → r ≡ letterOf (nodeOf letter n)) ⌝ }
-{
-    match letter {
-        b'a' => b'a',
-        b's' => b's',
-        b'p' => b'p',
-        _ => b'x',
-    }
 }
 
 fn wide(b: u8) -> u16
@@ -146,8 +128,8 @@ fn put_node(area: &mut [u8], at: usize, letter: u8, number: u8) -> usize
     put_line(
         area,
         at,
-        b"node=@,#\n",
-        wide(letter_of(letter)),
+        &plan::NODE_FORM,
+        wide(plan::letter_of(letter as u32)),
         wide(number),
     )
 }
@@ -182,11 +164,11 @@ fn put_text(area: &mut [u8], tables: Tables) -> usize
     let duration = tables.duration;
     let letter = tables.letter;
     let number = tables.number;
-    let mut at = put_line(area, 0, b"plan=#\n", 1, 0);
-    at = put_line(area, at, b"res=#\n", tables.resources, 0);
-    at = put_line(area, at, b"acts=#\n", acts as u16, 0);
+    let mut at = put_line(area, 0, &plan::EDITION_FORM, 1, 0);
+    at = put_line(area, at, &plan::RESOURCES_FORM, tables.resources, 0);
+    at = put_line(area, at, &plan::ACTS_FORM, acts as u16, 0);
     at = put_activities(area, at, resource, duration, acts);
-    at = put_line(area, at, b"nodes=#\n", nodes as u16, 0);
+    at = put_line(area, at, &plan::NODES_FORM, nodes as u16, 0);
     put_nodes(area, at, letter, number, nodes)
 }
 
@@ -201,8 +183,9 @@ pub fn text_length(tables: Tables) -> usize
 
 // The text of a plan at the front of the area, and its length. What stands after it in the area stays.
 pub fn write_text(tables: Tables, area: &mut [u8]) -> usize
-    requires { ⌜ (tables .acts ≤ mostActs) × (tables .nodes ≤ mostNodes) × (length (text (planOf tables)) ≤ length (now area)) ⌝ }
-    ensures { λ r. ⌜ Holds (text (planOf tables)) (now (area .entry)) (now (area .exit)) r ⌝ }
+    requires { ⌜ (tables .acts ≤ mostActs) × (tables .nodes ≤ mostNodes)
+        × (length (text (planOf tables)) ≤ length (now area)) ⌝ }
+    ensures { λ r. ⌜ HoldsText (text (planOf tables)) (now (area .entry)) (now (area .exit)) r ⌝ }
 {
     put_text(area, tables)
 }

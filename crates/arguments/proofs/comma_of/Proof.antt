@@ -24,7 +24,10 @@ shared-slice-read-if1 c = omega arith
 returns : tie.Need-returns Inv-loop μ-loop
 returns c =
     let loop = c .before .before .before .loop in
-    omega (arith, comma-here (c .before .before .before .before .args .word .now) (loop .i) (omega arith) (c .if1 .taken))
+    omega (
+      arith,
+      comma-here (c .before .before .before .before .args .word .now) (loop .i) (omega arith) (c .if1 .taken),
+    )
 
 add-i : tie.Need-add-i Inv-loop μ-loop
 add-i c = omega arith
@@ -40,7 +43,8 @@ loop-again c =
     (omega arith, rw (add-one (loop .i)) (omega (arith, more)))
 
 returns-2 : tie.Need-returns-2 Inv-loop μ-loop
-returns-2 c = omega (arith, comma-past (c .before .before .args .word .now) (c .before .loop .i) (omega arith) (omega arith))
+returns-2 c =
+    omega (arith, comma-past (c .before .before .args .word .now) (c .before .loop .i) (omega arith) (omega arith))
 
 pub comma-of-spec : {M : Type 1} → statement M
 comma-of-spec =

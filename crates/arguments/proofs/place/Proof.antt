@@ -14,7 +14,8 @@ enum-known-activity c = search needs
 place-at-requires : tie.Need-place-at-requires
 place-at-requires c κs =
     let start = c .before .before .before in
-    start-within (start .before .before .args .word .now) _ _ (sym (start .start-of .ensures) ∙ c .before .activity .given .1)
+    start-within (start .before .before .args .word .now) _ _
+    (sym (start .start-of .ensures) ∙ c .before .activity .given .1)
 
 enum-told : tie.Need-enum-told
 enum-told c = search needs

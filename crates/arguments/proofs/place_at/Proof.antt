@@ -4,7 +4,7 @@ use borrow.Author.Tests.{eq-eqb, ne-eqb}
 use lib.Dec.{eqb}
 use lib.ListN.{getD}
 use Rattle.timetable.specs.Mark.{mark}
-use Rattle.format.proofs.Tests.{chosen-first, chosen-second}
+use Rattle.base.proofs.Bools.{elim-true, elim-false}
 use borrow.Author.Needs.{needs}
 use Rattle.arguments.proofs.place_at.Statement.{statement}
 use Rattle.arguments.proofs.place_at.Tie as tie
@@ -18,7 +18,7 @@ array-read-if1 c = search needs
 returns : tie.Need-returns
 returns c =
     let args = c .before .before .args in
-    sym (chosen-second {b = eqb (getD (args .timetable .starts) (args .activity) 0) mark} _ _ (ne-eqb _ _ (c .if1 .taken)))
+    sym (elim-false (eqb (getD (args .timetable .starts) (args .activity) 0) mark) _ _ (ne-eqb _ _ (c .if1 .taken)))
 
 cast-starts : tie.Need-cast-starts
 cast-starts c = search needs
@@ -32,7 +32,7 @@ array-write-starts c = search needs
 returns-2 : tie.Need-returns-2
 returns-2 c =
     let args = c .before .before .args in
-    sym (chosen-first {b = eqb (getD (args .timetable .starts) (args .activity) 0) mark} _ _ (eq-eqb _ _ (c .if1 .left)))
+    sym (elim-true (eqb (getD (args .timetable .starts) (args .activity) 0) mark) _ _ (eq-eqb _ _ (c .if1 .left)))
 
 pub place-at-spec : {M : Type 1} → statement M
 place-at-spec =

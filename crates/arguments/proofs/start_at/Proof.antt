@@ -8,7 +8,8 @@ returns : tie.Need-returns
 returns c = no-activity (c .before .args .activity) (c .before .args .start) (c .if1 .taken)
 
 returns-2 : tie.Need-returns-2
-returns-2 c = marked-start (c .before .before .args .activity) (c .before .before .args .start) (omega arith) (c .if2 .taken)
+returns-2 c =
+    marked-start (c .before .before .args .activity) (c .before .before .args .start) (omega arith) (c .if2 .taken)
 
 returns-3 : tie.Need-returns-3
 returns-3 c = a-start (c .before .before .args .activity) (c .before .before .args .start) (omega arith) (omega arith)

@@ -29,7 +29,8 @@ returns-3 : tie.Need-returns-3
 returns-3 c =
     let args = c .before .before .before .before .before .before .before .args in
     both-numbers (args .activity) (args .start) _ _ (c .start-at .result)
-    (c .before .before .before .before .before .activity .given .1) (c .before .before .start .given .1) (c .start-at .ensures)
+    (c .before .before .before .before .before .activity .given .1) (c .before .before .start .given .1)
+    (c .start-at .ensures)
 
 pub start-by-spec : {M : Type 1} → statement M
 start-by-spec =

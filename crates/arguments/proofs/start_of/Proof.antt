@@ -13,7 +13,8 @@ comma-of-requires c κs = search needs
 slice-aggregate-number-of : tie.Need-slice-aggregate-number-of
 slice-aggregate-number-of c =
     sym
-    (length-take-le (c .before .before .comma-of .result) (c .before .before .before .before .args .word .now) (omega arith))
+    (length-take-le (c .before .before .comma-of .result) (c .before .before .before .before .args .word .now)
+    (omega arith))
 
 number-of-requires : tie.Need-number-of-requires
 number-of-requires c κs = search needs

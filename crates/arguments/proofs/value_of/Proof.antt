@@ -43,7 +43,11 @@ add-value : tie.Need-add-value Inv-loop μ-loop
 add-value c =
     let turn = c .before .before .before .before .before in
     let w = turn .before .before .args .word .now in
-    omega (arith, walked-room w (turn .loop .i) (turn .loop .value) (turn .loop .inv) (omega arith), c .digit .ensures .1)
+    omega (
+      arith,
+      walked-room w (turn .loop .i) (turn .loop .value) (turn .loop .inv) (omega arith),
+      c .digit .ensures .1,
+    )
 
 add-i : tie.Need-add-i Inv-loop μ-loop
 add-i c = omega arith
@@ -56,7 +60,8 @@ loop-again c =
     let turn = c .before .before .before .before .before in
     let w = turn .before .before .args .word .now in
     walked-more w (turn .loop .i) (turn .loop .value) (turn .loop .inv) (c .digit .result) (omega arith)
-    (sym (c .before .before .is-digit .ensures) ∙ not-false (c .before .before .is-digit .result) (c .before .if1 .left))
+    (sym (c .before .before .is-digit .ensures)
+    ∙ not-false (c .before .before .is-digit .result) (c .before .if1 .left))
     (c .digit .ensures .0) (c .digit .ensures .1)
 
 returns-2 : tie.Need-returns-2 Inv-loop μ-loop

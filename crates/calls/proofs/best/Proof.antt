@@ -1,8 +1,8 @@
--- `calls::best` meets its contract: the judgement of the file, and for a plan its shortest session.
+-- `best` meets its contract: the judgement of the file, and for a plan its shortest session.
 use mathlib.Core.Path.{refl}
 use borrow.Author.Needs.{needs}
 use denote.Ref.{now}
-use Rattle.calls.proofs.Judged.{holds, sweepable, best-of}
+use Rattle.calls.proofs.Judged.{best-of}
 use Rattle.calls.proofs.best.Statement.{statement}
 use Rattle.calls.proofs.best.Tie as tie
 
@@ -15,7 +15,8 @@ enum-told c = search needs
 shortest-requires : tie.Need-shortest-requires
 shortest-requires c κs =
     let b = c .before .before .before in
-    sweepable (now (b .before .before .args .file)) (b .judge .result) (b .judge .ensures .accepted (c .enum-told .given .1))
+    let (t, is, h) = b .judge .ensures .accepted (c .enum-told .given .1) in
+    (t, h)
 
 enum-known-verdict : tie.Need-enum-known-verdict
 enum-known-verdict c = search needs
@@ -27,13 +28,14 @@ returns : tie.Need-returns
 returns c =
     let b = c .before .before .before .before in
     let s = now (b .before .before .args .file) in
-    let a = b .judge .ensures .accepted (c .before .enum-told .given .1) in
-    best-of s _ (a .verdict) (b .before .before .args .cap) (c .shortest .result) (c .shortest .ensures (a .term) (holds s (b .judge .result) a))
+    let (t, is, h) = b .judge .ensures .accepted (c .before .enum-told .given .1) in
+    best-of s _ is (b .before .before .args .cap) (c .shortest .result) (c .shortest .ensures t h)
 
 returns-2 : tie.Need-returns-2
 returns-2 c =
     let b = c .before .before .before .before .before in
-    best-of (now (b .before .before .args .file)) _ (b .judge .ensures .refused _ (c .before .before .verdict .given .1)) (b .before .before .args .cap) _
+    best-of (now (b .before .before .args .file)) _
+    (b .judge .ensures .refused _ (c .before .before .verdict .given .1)) (b .before .before .args .cap) _
     (refl, c .empty .ensures)
 
 pub best-spec : {M : Type 1} → statement M

@@ -1,8 +1,8 @@
--- `calls::list` meets its contract: the judgement of the file, and for a plan its rows.
+-- `list` meets its contract: the judgement of the file, and for a plan its rows.
 use mathlib.Core.Path.{refl}
 use borrow.Author.Needs.{needs}
 use denote.Ref.{now}
-use Rattle.calls.proofs.Judged.{holds, sweepable, list-of}
+use Rattle.calls.proofs.Judged.{list-of}
 use Rattle.calls.proofs.list.Statement.{statement}
 use Rattle.calls.proofs.list.Tie as tie
 
@@ -15,7 +15,8 @@ enum-told c = search needs
 listed-requires : tie.Need-listed-requires
 listed-requires c κs =
     let b = c .before .before .before .before in
-    sweepable (now (b .before .before .before .args .file)) (b .judge .result) (b .judge .ensures .accepted (c .before .enum-told .given .1))
+    let (t, is, h) = b .judge .ensures .accepted (c .before .enum-told .given .1) in
+    (t, h)
 
 enum-known-verdict : tie.Need-enum-known-verdict
 enum-known-verdict c = search needs
@@ -25,19 +26,22 @@ same-length c = search needs
 
 returns : tie.Need-returns
 returns c =
-    let h = c .before .before in
-    let b = h .before .before .before .before .before in
+    let r = c .before .before in
+    let b = r .before .before .before .before .before in
     let g = b .before .before .before .args in
     let s = now (g .file) in
-    let a = b .judge .ensures .accepted (h .before .before .enum-told .given .1) in
-    list-of s _ (a .verdict) (g .cap) (now (g .area)) (h .listed .result) (h .listed .last .1 .1 .1 .0)
-    (h .listed .ensures (a .term) (holds s (b .judge .result) a))
+    let (t, is, h) = b .judge .ensures .accepted (r .before .before .enum-told .given .1) in
+    list-of s _ is (g .cap) (now (g .area)) (r .listed .result) (r .listed .last .1 .1 .0) (r .listed .ensures t h)
 
 returns-2 : tie.Need-returns-2
 returns-2 c =
     let b = c .before .before .before .before in
     let a = b .before .before .before .args in
-    list-of (now (a .file)) _ (b .judge .ensures .refused _ (c .before .verdict .given .1)) (a .cap) (now (a .area)) _ (now (a .area)) (refl, refl)
+    list-of (now (a .file)) _ (b .judge .ensures .refused _ (c .before .verdict .given .1)) (a .cap) (now (a .area)) _
+    (now (a .area)) (
+      refl,
+      refl,
+    )
 
 pub list-spec : {M : Type 1} → statement M
 list-spec =

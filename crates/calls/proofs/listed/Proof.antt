@@ -1,4 +1,4 @@
--- `calls::listed` meets its contract: the first sweep says whether all rows fit, the second writes them.
+-- `listed` meets its contract: the first sweep says whether all rows fit, the second writes them.
 use Prim.Native.Nat.{_+_}
 use native.Mathlib.Omega.{arith}
 use mathlib.Core.Path.{ap}
@@ -11,30 +11,37 @@ use Rattle.calls.proofs.Judged.{cells-fit}
 use Rattle.calls.proofs.listed.Statement.{statement}
 use Rattle.calls.proofs.listed.Tie as tie
 
-surveyed-requires : tie.Need-surveyed-requires
-surveyed-requires c κs = search needs
+tallied-requires : tie.Need-tallied-requires
+tallied-requires c κs = search needs
 
 returns : tie.Need-returns
 returns c =
     let a = c .before .before .before .args in
-    let r = c .before .surveyed in
-    λ t holds. lists-refused (a .tables) t holds (a .cap) (0 ∷ []) (r .result) (r .ensures t holds) (now (a .area)) (omega arith)
+    let r = c .before .tallied in
+    λ t holds.
+    lists-refused (a .campaign) t holds (a .cap) (0 ∷ []) (r .result) (r .ensures t holds) (now (a .area))
+    (omega arith)
 
 add-needed : tie.Need-add-needed
 add-needed c = search needs
 
 mul-needed : tie.Need-mul-needed
 mul-needed c =
-    let a = c .before .before .before .args in
+    let r = c .before .before in
+    let s = r .before .before in
     record {
-      fits = cells-fit (c .before .surveyed .result .count) (a .tables .acts + 1) (omega arith) (omega (arith, c .before .before .before .pre .holds .ranged .acts));
+      fits = cells-fit (r .tallied .result .count) (s .args .campaign .tables .acts + 1) (omega arith)
+          (omega (arith, s .pre .1 .ranged .acts));
     }
 
 returns-2 : tie.Need-returns-2
 returns-2 c =
-    let a = c .before .before .before .before .args in
-    let r = c .before .before .surveyed in
-    λ t holds. lists-short (a .tables) t holds (a .cap) (0 ∷ []) (r .result) (r .ensures t holds) (now (a .area)) (omega arith) (omega arith)
+    let a = c .before .before .before .before .before .args in
+    let r = c .before .before .before .tallied in
+    λ t holds.
+    lists-short (a .campaign) t holds (a .cap) (0 ∷ []) (r .result) (r .ensures t holds) (now (a .area))
+    (omega arith)
+    (omega arith)
 
 sweep-requires : tie.Need-sweep-requires
 sweep-requires c κs = search needs
@@ -44,21 +51,21 @@ same-length c = search needs
 
 returns-3 : tie.Need-returns-3
 returns-3 c =
-    let a = c .before .before .before .before .before .before .before .before .args in
-    let r = c .before .before .before .before .before .before .surveyed in
+    let a = c .before .before .before .before .before .before .before .before .before .args in
+    let r = c .before .before .before .before .before .before .before .tallied in
     let s = c .before .before .sweep in
     λ t holds.
-    lists-rows (a .tables) t holds (a .cap) (0 ∷ []) (r .result) (r .ensures t holds) (now (a .area))
+    lists-rows (a .campaign) t holds (a .cap) (0 ∷ []) (r .result) (r .ensures t holds) (now (a .area))
     (omega arith)
     (omega arith)
-    (s .last .1 .1 .1 .0)
+    (s .last .1 .1 .0)
     (ap (λ (k : Kept). k .area) (s .ensures t holds))
 
 pub listed-spec : {M : Type 1} → statement M
 listed-spec =
     tie.close
     (tie.spec
-    surveyed-requires
+    tallied-requires
     returns
     add-needed
     mul-needed

@@ -1,4 +1,4 @@
--- `calls::shortest` meets its contract: the sweep has kept a shortest pair.
+-- `shortest` meets its contract: the sweep has kept a shortest pair.
 use native.Mathlib.Omega.{arith}
 use mathlib.Core.Path.{refl}
 use mathlib.Core.List.{[], _∷_}
@@ -7,8 +7,8 @@ use Rattle.calls.proofs.Answers.{best-refused, best-found}
 use Rattle.calls.proofs.shortest.Statement.{statement}
 use Rattle.calls.proofs.shortest.Tie as tie
 
-surveyed-requires : tie.Need-surveyed-requires
-surveyed-requires c κs = search needs
+tallied-requires : tie.Need-tallied-requires
+tallied-requires c κs = search needs
 
 empty-requires : tie.Need-empty-requires
 empty-requires c κs = search needs
@@ -16,14 +16,17 @@ empty-requires c κs = search needs
 returns : tie.Need-returns
 returns c =
     let a = c .before .before .before .before .args in
-    let r = c .before .before .before .surveyed in
-    λ t holds. best-refused (a .tables) t holds (a .cap) (0 ∷ []) (r .result) (r .ensures t holds) (omega arith) _ refl (c .empty .ensures)
+    let r = c .before .before .before .tallied in
+    λ t holds.
+    best-refused (a .campaign) t holds (a .cap) (0 ∷ []) (r .result) (r .ensures t holds) (omega arith) _ refl
+    (c .empty .ensures)
 
 returns-2 : tie.Need-returns-2
 returns-2 c =
     let a = c .before .before .before .before .args in
-    let r = c .before .before .before .surveyed in
-    λ t holds. best-found (a .tables) t holds (a .cap) (0 ∷ []) (r .result) (r .ensures t holds) (omega arith) _ refl refl
+    let r = c .before .before .before .tallied in
+    λ t holds.
+    best-found (a .campaign) t holds (a .cap) (0 ∷ []) (r .result) (r .ensures t holds) (omega arith) _ refl refl
 
 pub shortest-spec : {M : Type 1} → statement M
-shortest-spec = tie.close (tie.spec surveyed-requires empty-requires returns returns-2)
+shortest-spec = tie.close (tie.spec tallied-requires empty-requires returns returns-2)

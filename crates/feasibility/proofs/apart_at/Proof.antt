@@ -54,7 +54,8 @@ returns-4 c =
     let a = c .before .before .before .before .before .before .before .args in
     rw (
       ne-eqb (a .i) (a .j) (c .before .before .before .before .before .before .if1 .left),
-      eq-eqb (getD (a .resource .now) (a .i) 0) (getD (a .resource .now) (a .j) 0) (c .before .before .before .if2 .left),
+      eq-eqb (getD (a .resource .now) (a .i) 0) (getD (a .resource .now) (a .j) 0)
+          (c .before .before .before .if2 .left),
       sym (c .before .before .ends-by .ensures) ∙ c .before .if3 .left,
     )
     (c .ends-by2 .ensures)

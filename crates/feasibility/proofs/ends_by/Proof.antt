@@ -35,7 +35,9 @@ wide-requires-3 : tie.Need-wide-requires-3
 wide-requires-3 c κs = search needs
 
 returns : tie.Need-returns
-returns c = same-order (c .before .before .before .before .wide .ensures .0) (c .before .before .wide2 .ensures .0) (c .wide3 .ensures .0)
+returns c =
+    same-order (c .before .before .before .before .wide .ensures .0) (c .before .before .wide2 .ensures .0)
+    (c .wide3 .ensures .0)
 
 pub ends-by-spec : {M : Type 1} → statement M
 ends-by-spec =

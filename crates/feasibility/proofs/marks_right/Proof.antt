@@ -7,7 +7,7 @@ use borrow.Author.Tests.{not-true, not-false}
 use lib.ListN.{getD}
 use Rattle.sets.specs.Sets.{has}
 use Rattle.timetable.specs.Mark.{places}
-use Rattle.schedule.specs.Below.{everyBelow}
+use Rattle.base.specs.Below.{everyBelow}
 use Rattle.feasibility.specs.Model.{markRight, marksRight}
 use Rattle.feasibility.proofs.Right.{every-none, every-more, every-end, every-not}
 use Rattle.feasibility.proofs.marks_right.Statement.{statement}
@@ -23,9 +23,12 @@ abbrev μ-loop : tie.MeasureT-loop
 abbrev right : tie.Start Inv-loop μ-loop → ℕ → Bool
 right c k = markRight (has (c .args .present) k) (getD (c .args .starts .now) k 0)
 
-tested : (c : tie.After-mark-right Inv-loop μ-loop) → c .mark-right .result ≡ right (c .before .before .before .before .before) (c .before .before .before .before .loop .i)
+tested : (c : tie.After-mark-right Inv-loop μ-loop) → c .mark-right .result
+    ≡ right (c .before .before .before .before .before) (c .before .before .before .before .loop .i)
 tested c =
-    let start = getD (c .before .before .before .before .before .args .starts .now) (c .before .before .before .before .loop .i) 0 in
+    let start =
+    getD (c .before .before .before .before .before .args .starts .now)
+    (c .before .before .before .before .loop .i) 0 in
     c .mark-right .ensures ∙ ap (λ there. markRight there start) (c .before .before .contains .ensures)
 
 loop-holds : tie.Need-loop-holds Inv-loop μ-loop
@@ -47,7 +50,8 @@ returns : tie.Need-returns Inv-loop μ-loop
 unfolding marksRight
 returns c =
     sym
-    (every-not (right (c .before .before .before .before .before .before)) places (c .before .before .before .before .before .loop .i) (omega arith)
+    (every-not (right (c .before .before .before .before .before .before)) places
+    (c .before .before .before .before .before .loop .i) (omega arith)
     (sym (tested (c .before)) ∙ not-true (c .before .mark-right .result) (c .if1 .taken)))
 
 add-i : tie.Need-add-i Inv-loop μ-loop

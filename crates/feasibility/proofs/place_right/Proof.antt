@@ -5,7 +5,7 @@ use mathlib.Core.Path.{_≡_, sym, _∙_}
 use native.Mathlib.Omega.{arith}
 use borrow.Author.Tests.{not-true, not-false}
 use Rattle.sets.specs.Sets.{has}
-use Rattle.schedule.specs.Below.{everyBelow}
+use Rattle.base.specs.Below.{everyBelow}
 use Rattle.feasibility.specs.Model.{agree, placeRight}
 use Rattle.feasibility.proofs.Right.{every-none, every-more, every-end, every-not}
 use Rattle.feasibility.proofs.place_right.Statement.{statement}
@@ -69,7 +69,8 @@ unfolding placeRight
 returns-3 c =
     let start = c .before .before .before .before in
     let at = c .before .loop in
-    rw (there (c .before .before)) (sym (every-end (right start) (start .args .acts) (at .i) (at .inv .0) (c .loop-test .left) (at .inv .1)))
+    rw (there (c .before .before))
+    (sym (every-end (right start) (start .args .acts) (at .i) (at .inv .0) (c .loop-test .left) (at .inv .1)))
 
 pub place-right-spec : {M : Type 1} → statement M
 place-right-spec =

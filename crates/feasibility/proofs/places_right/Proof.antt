@@ -5,7 +5,7 @@ use mathlib.Core.Path.{_≡_, sym, _∙_}
 use native.Mathlib.Omega.{arith}
 use borrow.Author.Tests.{not-true, not-false}
 use lib.ListN.{getD}
-use Rattle.schedule.specs.Below.{everyBelow}
+use Rattle.base.specs.Below.{everyBelow}
 use Rattle.feasibility.specs.Model.{placeRight, placesRight}
 use Rattle.feasibility.proofs.Right.{every-none, every-more, every-end, every-not}
 use Rattle.feasibility.proofs.places_right.Statement.{statement}
@@ -22,7 +22,8 @@ abbrev μ-loop : tie.MeasureT-loop
 abbrev right : tie.Start Inv-loop μ-loop → ℕ → Bool
 right c k =
     let a = c .args in
-    placeRight (a .acts) (a .resource .now) (a .duration .now) (a .present) (getD (a .preds .now) k 0) (a .starts .now) k
+    placeRight (a .acts) (a .resource .now) (a .duration .now) (a .present) (getD (a .preds .now) k 0)
+    (a .starts .now) k
 
 loop-holds : tie.Need-loop-holds Inv-loop μ-loop
 loop-holds c = (omega arith, every-none (right c))

@@ -1,30 +1,26 @@
--- `inspect::check_variant` meets its contract: the tables and the order stand for the variant that is tested.
+-- `check_variant` meets its contract: the tables hold the variant that is tested.
 use native.Mathlib.Omega.{arith}
-use borrow.Author.Needs.{needs}
 use Rattle.plan.specs.Plan.{planOf}
 use Rattle.variant.specs.Project.{variantAt}
-use Rattle.inspect.proofs.Checking.{stands}
+use Rattle.variant.proofs.Tables.{few}
 use Rattle.inspect.proofs.check_variant.Statement.{statement}
 use Rattle.inspect.proofs.check_variant.Tie as tie
 
-spans-requires : tie.Need-spans-requires
-spans-requires c κs = search needs
-
-pose-requires : tie.Need-pose-requires
-pose-requires c κs =
-    let s = c .before in
-    record { term = s .pre .0; holds = s .pre .1; spanned = c .spans .ensures; below = omega (arith, s .pre .2) }
+tabled-requires : tie.Need-tabled-requires
+tabled-requires c κs = let (t, h) = c .before .pre in (t, record { plan = h .plan; below = omega (arith, h .below) })
 
 is-session-requires : tie.Need-is-session-requires
-is-session-requires c κs = search needs
+is-session-requires c κs =
+    let b = c .before in
+    let (t, h) = b .before .before .pre in
+    few (record { valid = h .plan .valid; below = h .below }) (b .tabled .ensures t h)
 
 returns : tie.Need-returns
-returns c t e =
-    let b = c .before .before .before .before .before .before .before .before .before in
-    let s = b .before .before in
-    let tables = s .args .tables in
-    let w = variantAt t (s .args .v) in
-    c .is-session .ensures (planOf tables) w (stands tables (s .pre .0) w (b .pose .result) (s .pre .1) (b .pose .ensures t e))
+returns c t h =
+    let b = c .before .before in
+    let a = b .before .before .args in
+    c .is-session .ensures (planOf (a .campaign .tables)) (variantAt t (a .v)) (h .plan .valid .ranges)
+    (b .tabled .ensures t h)
 
 pub check-variant-spec : {M : Type 1} → statement M
-check-variant-spec = tie.close (tie.spec spans-requires pose-requires is-session-requires returns)
+check-variant-spec = tie.close (tie.spec tabled-requires is-session-requires returns)

@@ -1,12 +1,14 @@
--- `link` meets its contract. The loop's invariant: with the members still to come linked too, the column is what it is to be.
+-- `link` meets its contract. The loop's invariant: with the members still to come linked too, the column is what it
+-- is to be.
 use native.Mathlib.Omega.{arith}
 use mathlib.Core.Path.{ap, _∙_}
 use Prim.Native.Nat.{_+_}
 use lib.Bits.{bitOr}
 use lib.ListN.{getD}
-use Rattle.members.proofs.Members.{lowest-below, after-less}
+use Rattle.sets.proofs.Members.{lowest-below, after-less}
 use Rattle.network.proofs.Links.{Joining, joining-none, joining-more, joining-all}
 use Rattle.network.proofs.link.Statement.{statement}
+use Rattle.network.specs.Network.{nextFrom}
 use Rattle.network.proofs.link.Tie as tie
 
 abbrev Inv-loop : tie.InvT-loop
@@ -22,13 +24,28 @@ lowest-requires : tie.Need-lowest-requires Inv-loop μ-loop
 lowest-requires c κs = tt
 
 add-union : tie.Need-add-union Inv-loop μ-loop
-add-union c = omega (arith, lowest-below (c .before .before .loop .rest) (c .lowest .result) (c .before .before .loop .inv .low) (c .before .loop-test .taken) (c .lowest .ensures))
+add-union c =
+    omega (
+      arith,
+      lowest-below (c .before .before .loop .rest) (c .lowest .result) (c .before .before .loop .inv .low)
+          (c .before .loop-test .taken) (c .lowest .ensures),
+    )
 
 mul-union : tie.Need-mul-union Inv-loop μ-loop
-mul-union c = omega (arith, lowest-below (c .before .before .loop .rest) (c .lowest .result) (c .before .before .loop .inv .low) (c .before .loop-test .taken) (c .lowest .ensures))
+mul-union c =
+    omega (
+      arith,
+      lowest-below (c .before .before .loop .rest) (c .lowest .result) (c .before .before .loop .inv .low)
+          (c .before .loop-test .taken) (c .lowest .ensures),
+    )
 
 element-copy-out-union : tie.Need-element-copy-out-union Inv-loop μ-loop
-element-copy-out-union c = omega (arith, lowest-below (c .before .before .loop .rest) (c .lowest .result) (c .before .before .loop .inv .low) (c .before .loop-test .taken) (c .lowest .ensures))
+element-copy-out-union c =
+    omega (
+      arith,
+      lowest-below (c .before .before .loop .rest) (c .lowest .result) (c .before .before .loop .inv .low)
+          (c .before .loop-test .taken) (c .lowest .ensures),
+    )
 
 single-requires : tie.Need-single-requires Inv-loop μ-loop
 single-requires c κs = omega arith
@@ -40,19 +57,31 @@ add-table : tie.Need-add-table Inv-loop μ-loop
 add-table c =
     let low = c .before .before .before in
     let at = low .before .before in
-    omega (arith, lowest-below (at .loop .rest) (low .lowest .result) (at .loop .inv .low) (low .before .loop-test .taken) (low .lowest .ensures))
+    omega (
+      arith,
+      lowest-below (at .loop .rest) (low .lowest .result) (at .loop .inv .low)
+          (low .before .loop-test .taken) (low .lowest .ensures),
+    )
 
 mul-table : tie.Need-mul-table Inv-loop μ-loop
 mul-table c =
     let low = c .before .before .before in
     let at = low .before .before in
-    omega (arith, lowest-below (at .loop .rest) (low .lowest .result) (at .loop .inv .low) (low .before .loop-test .taken) (low .lowest .ensures))
+    omega (
+      arith,
+      lowest-below (at .loop .rest) (low .lowest .result) (at .loop .inv .low)
+          (low .before .loop-test .taken) (low .lowest .ensures),
+    )
 
 element-write-table : tie.Need-element-write-table Inv-loop μ-loop
 element-write-table c =
     let low = c .before .before .before in
     let at = low .before .before in
-    omega (arith, lowest-below (at .loop .rest) (low .lowest .result) (at .loop .inv .low) (low .before .loop-test .taken) (low .lowest .ensures))
+    omega (
+      arith,
+      lowest-below (at .loop .rest) (low .lowest .result) (at .loop .inv .low)
+          (low .before .loop-test .taken) (low .lowest .ensures),
+    )
 
 after-lowest-requires : tie.Need-after-lowest-requires Inv-loop μ-loop
 after-lowest-requires c κs = omega arith
@@ -61,7 +90,12 @@ loop-less : tie.Need-loop-less Inv-loop μ-loop
 loop-less c =
     let low = c .before .before .before .before in
     let at = low .before .before in
-    omega (arith, c .after-lowest .ensures, after-less (at .loop .rest) (at .loop .inv .low) (low .before .loop-test .taken))
+    omega (
+      arith,
+      c .after-lowest .ensures,
+      after-less (at .loop .rest) (at .loop .inv .low)
+          (low .before .loop-test .taken),
+    )
 
 loop-again : tie.Need-loop-again Inv-loop μ-loop
 loop-again c =
@@ -69,15 +103,18 @@ loop-again c =
     let at = low .before .before in
     let a = at .before .args in
     let i = low .lowest .result in
-    joining-more (a .table .now) (a .set) (a .j) (at .loop .table) (at .loop .rest) (c .after-lowest .result) i (c .before .union .result)
+    joining-more (a .table .now) (a .set) (a .j) (at .loop .table) (at .loop .rest) (c .after-lowest .result) i
+    (c .before .union .result)
     (at .before .pre .0) (at .loop .inv) (low .before .loop-test .taken) (low .lowest .ensures)
-    (c .before .union .ensures ∙ ap (bitOr (getD (at .loop .table) (64 + i) 0)) (c .before .before .single .ensures))
+    (c .before .union .ensures ∙ ap (bitOr (getD (at .loop .table) (nextFrom + i) 0))
+    (c .before .before .single .ensures))
     (c .after-lowest .ensures)
 
 returns : tie.Need-returns Inv-loop μ-loop
 returns c =
     let a = c .before .before .args in
-    joining-all (a .table .now) (a .set) (a .j) (c .before .loop .table) (c .before .loop .rest) (c .loop-test .left) (c .before .loop .inv)
+    joining-all (a .table .now) (a .set) (a .j) (c .before .loop .table) (c .before .loop .rest) (c .loop-test .left)
+    (c .before .loop .inv)
 
 pub link-spec : {M : Type 1} → statement M
 link-spec =

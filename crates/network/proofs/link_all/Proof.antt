@@ -5,6 +5,7 @@ use lib.ListN.{length-set}
 use native.Mathlib.Omega.{arith}
 use Rattle.network.proofs.Links.{Linking, linking-none, linking-more, linking-all}
 use Rattle.network.proofs.link_all.Statement.{statement}
+use Rattle.network.specs.Network.{predsFrom, nearFrom}
 use Rattle.network.proofs.link_all.Tie as tie
 
 abbrev Inv-loop : tie.InvT-loop
@@ -28,7 +29,12 @@ element-copy-out-preds c = omega arith
 nearest-requires : tie.Need-nearest-requires Inv-loop μ-loop
 nearest-requires c κs =
     let at = c .before .before .before in
-    omega (arith, at .loop .inv .1 .before (32 + at .loop .j) (omega arith), at .before .pre .preds-low (at .loop .j) (omega arith))
+    omega (
+      arith,
+      at .loop .inv .1 .before (predsFrom + at .loop .j) (omega arith),
+      at .before .pre .preds-low
+          (at .loop .j) (omega arith),
+    )
 
 add-table : tie.Need-add-table Inv-loop μ-loop
 add-table c = omega arith
@@ -41,8 +47,12 @@ element-write-table c = omega arith
 
 link-requires : tie.Need-link-requires Inv-loop μ-loop
 link-requires c κs =
-    let at = c .before .before .before .before .before in
-    (length-set (at .loop .table) (96 + at .loop .j) (c .before .nearest .result) ∙ at .loop .inv .1 .long ∙ at .before .pre .long, c .before .nearest .ensures .low, omega arith)
+    let at = c .before .before .before .before .before in (
+      length-set (at .loop .table) (nearFrom + at .loop .j) (c .before .nearest .result) ∙ at .loop .inv .1 .long
+          ∙ at .before .pre .long,
+      c .before .nearest .ensures .low,
+      omega arith,
+    )
 
 add-j : tie.Need-add-j Inv-loop μ-loop
 add-j c = omega arith
@@ -54,14 +64,16 @@ loop-again : tie.Need-loop-again Inv-loop μ-loop
 loop-again c =
     let at = c .before .before .before .before .before .before in (
       omega arith,
-      linking-more (at .before .args .table .now) (at .loop .j) (at .loop .table) (c .before .before .nearest .result) (c .link .last .0) (omega arith)
+      linking-more (at .before .args .table .now) (at .loop .j) (at .loop .table) (c .before .before .nearest .result)
+          (c .link .last .0) (omega arith)
           (at .before .pre .long) (at .loop .inv .1) (c .before .before .nearest .ensures) (c .link .ensures),
     )
 
 returns : tie.Need-returns Inv-loop μ-loop
 returns c =
     let a = c .before .before .args in
-    linking-all (a .acts) (c .before .loop .j) (a .table .now) (c .before .loop .table) (omega arith) (c .before .before .pre) (c .before .loop .inv .1)
+    linking-all (a .acts) (c .before .loop .j) (a .table .now) (c .before .loop .table) (omega arith)
+    (c .before .before .pre) (c .before .loop .inv .1)
 
 pub link-all-spec : {M : Type 1} → statement M
 link-all-spec =

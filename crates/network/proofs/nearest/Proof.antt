@@ -1,7 +1,7 @@
--- `nearest` meets its contract. The loop's invariant: what is left of the set has the members that precede none of those
--- looked at.
+-- `nearest` meets its contract. The loop's invariant: what is left of the set has the members that precede none of
+-- those looked at.
 use native.Mathlib.Omega.{arith}
-use Rattle.members.proofs.Members.{lowest-below, after-less}
+use Rattle.sets.proofs.Members.{lowest-below, after-less}
 use Rattle.network.proofs.Links.{Nearing, nearing-none, nearing-more}
 use Rattle.network.proofs.nearest.Statement.{statement}
 use Rattle.network.proofs.nearest.Tie as tie
@@ -19,13 +19,28 @@ lowest-requires : tie.Need-lowest-requires Inv-loop μ-loop
 lowest-requires c κs = tt
 
 add-minus : tie.Need-add-minus Inv-loop μ-loop
-add-minus c = omega (arith, lowest-below (c .before .before .loop .rest) (c .lowest .result) (c .before .before .loop .inv .low) (c .before .loop-test .taken) (c .lowest .ensures))
+add-minus c =
+    omega (
+      arith,
+      lowest-below (c .before .before .loop .rest) (c .lowest .result) (c .before .before .loop .inv .low)
+          (c .before .loop-test .taken) (c .lowest .ensures),
+    )
 
 mul-minus : tie.Need-mul-minus Inv-loop μ-loop
-mul-minus c = omega (arith, lowest-below (c .before .before .loop .rest) (c .lowest .result) (c .before .before .loop .inv .low) (c .before .loop-test .taken) (c .lowest .ensures))
+mul-minus c =
+    omega (
+      arith,
+      lowest-below (c .before .before .loop .rest) (c .lowest .result) (c .before .before .loop .inv .low)
+          (c .before .loop-test .taken) (c .lowest .ensures),
+    )
 
 element-copy-out-minus : tie.Need-element-copy-out-minus Inv-loop μ-loop
-element-copy-out-minus c = omega (arith, lowest-below (c .before .before .loop .rest) (c .lowest .result) (c .before .before .loop .inv .low) (c .before .loop-test .taken) (c .lowest .ensures))
+element-copy-out-minus c =
+    omega (
+      arith,
+      lowest-below (c .before .before .loop .rest) (c .lowest .result) (c .before .before .loop .inv .low)
+          (c .before .loop-test .taken) (c .lowest .ensures),
+    )
 
 minus-requires : tie.Need-minus-requires Inv-loop μ-loop
 minus-requires c κs = tt
@@ -37,15 +52,22 @@ loop-less : tie.Need-loop-less Inv-loop μ-loop
 loop-less c =
     let low = c .before .before .before in
     let at = low .before .before in
-    omega (arith, c .after-lowest .ensures, after-less (at .loop .rest) (at .loop .inv .low) (low .before .loop-test .taken))
+    omega (
+      arith,
+      c .after-lowest .ensures,
+      after-less (at .loop .rest) (at .loop .inv .low)
+          (low .before .loop-test .taken),
+    )
 
 loop-again : tie.Need-loop-again Inv-loop μ-loop
 loop-again c =
     let low = c .before .before .before in
     let at = low .before .before in
     let a = at .before .args in
-    nearing-more (a .table .now) (a .set) (at .loop .near) (at .loop .rest) (c .before .minus .result) (c .after-lowest .result) (low .lowest .result)
-    (at .loop .inv) (low .before .loop-test .taken) (low .lowest .ensures) (c .before .minus .ensures) (c .after-lowest .ensures)
+    nearing-more (a .table .now) (a .set) (at .loop .near) (at .loop .rest) (c .before .minus .result)
+    (c .after-lowest .result) (low .lowest .result)
+    (at .loop .inv) (low .before .loop-test .taken) (low .lowest .ensures) (c .before .minus .ensures)
+    (c .after-lowest .ensures)
 
 returns : tie.Need-returns Inv-loop μ-loop
 returns c = c .before .loop .inv .so-far

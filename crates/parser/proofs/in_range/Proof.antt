@@ -5,10 +5,13 @@ use Rattle.parser.proofs.in_range.Statement.{statement}
 use Rattle.parser.proofs.in_range.Tie as tie
 
 returns : tie.Need-returns
-returns c = let start = c .before in between-from (start .args .low) (start .args .high) (start .args .n) (c .if1 .taken)
+returns c =
+    let start = c .before in between-from (start .args .low) (start .args .high) (start .args .n) (c .if1 .taken)
 
 returns-2 : tie.Need-returns-2
-returns-2 c = let start = c .before in sym (between-under (start .args .low) (start .args .high) (start .args .n) (c .if1 .left))
+returns-2 c =
+    let start =
+    c .before in sym (between-under (start .args .low) (start .args .high) (start .args .n) (c .if1 .left))
 
 pub in-range-spec : {M : Type 1} → statement M
 in-range-spec = tie.close (tie.spec returns returns-2)

@@ -18,7 +18,10 @@ returns-4 : tie.Need-returns-4
 returns-4 c = sym (ap isLetter (c .match .keys4))
 
 returns-5 : tie.Need-returns-5
-returns-5 c = let other = c .match .rest in sym (no-letter (c .before .args .b) (other .0 .0 .0 .1) (other .0 .0 .1) (other .0 .1) (other .1))
+returns-5 c =
+    let other =
+    c .match .rest in sym
+    (no-letter (c .before .args .b) (other .0 .0 .0 .1) (other .0 .0 .1) (other .0 .1) (other .1))
 
 pub is-letter-spec : {M : Type 1} → statement M
 is-letter-spec = tie.close (tie.spec returns returns-2 returns-3 returns-4 returns-5)

@@ -16,7 +16,8 @@ returns c =
 returns-2 : tie.Need-returns-2
 returns-2 c =
     let start = c .before .before in
-    c .in-range .ensures ∙ sym (children-fit (start .args .acts) (start .args .letter) (start .args .number) (c .before .if1 .left))
+    c .in-range .ensures
+    ∙ sym (children-fit (start .args .acts) (start .args .letter) (start .args .number) (c .before .if1 .left))
 
 pub is-node-spec : {M : Type 1} → statement M
 is-node-spec = tie.close (tie.spec in-range-requires returns returns-2)

@@ -2,7 +2,7 @@
 use mathlib.Core.Path.{sym, ap, _∙_}
 use native.Mathlib.Omega.{arith}
 use Rattle.plan.specs.Plan.{isLetter}
-use Rattle.parser.proofs.Forms.{letter-room, letter-found, letter-lost}
+use Rattle.parser.proofs.Forms.{letter-room, letter-matched, letter-lost}
 use borrow.Author.Needs.{needs}
 use Rattle.parser.proofs.letter.Statement.{statement}
 use Rattle.parser.proofs.letter.Tie as tie
@@ -15,11 +15,12 @@ is-letter-requires c κs = search needs
 
 add-t7 : tie.Need-add-t7
 add-t7 c =
-    let start = c .before .before .before .before in
+    let test = c .before in
+    let start = test .before .before .before in
     omega (
       arith,
-      letter-room (start .args .file .now) (start .args .line .next) (c .before .before .byte .result) (c .before .before .byte .ensures)
-          (sym (c .before .is-letter .ensures) ∙ c .if1 .taken),
+      letter-room (start .args .file .now) (start .args .line .next) (test .before .byte .ensures)
+          (sym (test .is-letter .ensures) ∙ c .if1 .taken),
     )
 
 wide-requires : tie.Need-wide-requires
@@ -30,16 +31,18 @@ lost-requires c κs = search needs
 
 returns : tie.Need-returns
 returns c =
-    let start = c .before .before .before .before .before in
-    letter-found (start .args .file .now) (start .args .line) (c .wide .result) (c .wide .ensures ∙ c .before .before .before .byte .ensures)
-    (ap isLetter (c .wide .ensures) ∙ sym (c .before .before .is-letter .ensures) ∙ c .before .if1 .taken)
+    let test = c .before .before in
+    let start = test .before .before .before in
+    letter-matched (start .args .file .now) (start .args .line) (c .wide .ensures ∙ test .before .byte .ensures)
+    (ap isLetter (c .wide .ensures) ∙ sym (test .is-letter .ensures) ∙ c .before .if1 .taken)
 
 returns-2 : tie.Need-returns-2
 returns-2 c =
-    let start = c .before .before .before .before .before in
+    let test = c .before .before in
+    let start = test .before .before .before in
     c .lost .ensures
-    ∙ sym (letter-lost (start .args .file .now) (start .args .line) (c .before .before .before .byte .result) (c .before .before .before .byte .ensures)
-    (sym (c .before .before .is-letter .ensures) ∙ c .before .if1 .left))
+    ∙ sym (letter-lost (start .args .file .now) (start .args .line) (test .before .byte .ensures)
+    (sym (test .is-letter .ensures) ∙ c .before .if1 .left))
 
 pub letter-spec : {M : Type 1} → statement M
 letter-spec =

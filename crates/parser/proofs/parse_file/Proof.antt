@@ -16,7 +16,7 @@ refused-requires c κs = search needs
 returns : tie.Need-returns
 returns c =
     let s = c .before .before .before .args .file .now in
-    refused-length s (c .refused .result) (c .refused .ensures)
+    refused-length (c .refused .ensures)
     (ap (λ (t : Bool). t || ltb longest (length s)) (eq-eqb (length s) 0 (c .before .if1 .taken)))
 
 refused-requires-2 : tie.Need-refused-requires-2
@@ -25,8 +25,9 @@ refused-requires-2 c κs = search needs
 returns-2 : tie.Need-returns-2
 returns-2 c =
     let s = c .before .before .before .before .args .file .now in
-    refused-length s (c .refused2 .result) (c .refused2 .ensures)
-    (ap (λ (t : Bool). t || ltb longest (length s)) (ne-eqb (length s) 0 (c .before .before .if1 .left)) ∙ lt-ltb longest (length s) (c .before .if2 .taken))
+    refused-length (c .refused2 .ensures)
+    (ap (λ (t : Bool). t || ltb longest (length s)) (ne-eqb (length s) 0 (c .before .before .if1 .left))
+    ∙ lt-ltb longest (length s) (c .before .if2 .taken))
 
 read-plan-requires : tie.Need-read-plan-requires
 read-plan-requires c κs = search needs

@@ -13,7 +13,8 @@ value-requires c κs = search needs
 returns : tie.Need-returns
 returns c =
     let start = c .before .before .before in
-    c .value .ensures ∙ ap (λ (x : ℕ). advance (x ∷ []) (seen (start .args .file .now) (start .args .line))) (sym (c .before .if1 .taken))
+    c .value .ensures
+    ∙ ap (λ (x : ℕ). advance (x ∷ []) (seen (start .args .file .now) (start .args .line))) (sym (c .before .if1 .taken))
 
 letter-requires : tie.Need-letter-requires
 letter-requires c κs = search needs
@@ -21,7 +22,8 @@ letter-requires c κs = search needs
 returns-2 : tie.Need-returns-2
 returns-2 c =
     let start = c .before .before .before .before in
-    c .letter .ensures ∙ ap (λ (x : ℕ). advance (x ∷ []) (seen (start .args .file .now) (start .args .line))) (sym (c .before .if2 .taken))
+    c .letter .ensures
+    ∙ ap (λ (x : ℕ). advance (x ∷ []) (seen (start .args .file .now) (start .args .line))) (sym (c .before .if2 .taken))
 
 literal-requires : tie.Need-literal-requires
 literal-requires c κs = search needs

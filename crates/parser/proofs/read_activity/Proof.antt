@@ -1,8 +1,12 @@
 -- What fits is small enough for its table.
 use mathlib.Core.Path.{refl, sym, _∙_}
 use native.Mathlib.Omega.{arith}
-use Rattle.parser.proofs.Cases.{false-true}
-use Rattle.parser.proofs.Readers.{activity-reads, activity-small}
+use Rattle.plan.specs.Limits.{actForm}
+use Rattle.plan.specs.Plan.{Activity, isActivity}
+use Rattle.base.proofs.Bools.{true-not-false}
+use Rattle.format.proofs.Columns.{activities}
+use Rattle.format.proofs.Plans.{resource-below, duration-between}
+use Rattle.parser.proofs.Readers.{pair-reads}
 use borrow.Author.Needs.{needs}
 use Rattle.parser.proofs.read_activity.Statement.{statement}
 use Rattle.parser.proofs.read_activity.Tie as tie
@@ -16,34 +20,46 @@ read-line-requires c κs = search needs
 is-activity-requires : tie.Need-is-activity-requires
 is-activity-requires c κs = search needs
 
-judged-requires : tie.Need-judged-requires
-judged-requires c κs = search needs
+take-line-requires : tie.Need-take-line-requires
+take-line-requires c κs = search needs
+
+-- The activity that the line says.
+abbrev said : tie.After-read-line → Activity
+said c = record { resource = c .read-line .result .first; duration = c .read-line .result .second }
 
 cast-t15 : tie.Need-cast-t15
 cast-t15 c =
-    let line = c .before .before .before .read-line .result in
-    omega (arith, activity-small (c .before .before .before .before .before .before .args .resources) (line .first) (line .second) (sym (c .before .before .is-activity .ensures) ∙ c .if1 .taken))
+    let test = c .before .before in
+    let start = test .before .before .before .before in
+    omega (
+      arith,
+      resource-below (start .args .resources) (said (test .before))
+          (sym (test .is-activity .ensures) ∙ c .if1 .taken),
+    )
 
 cast-t16 : tie.Need-cast-t16
 cast-t16 c =
-    let line = c .before .before .before .read-line .result in
-    omega (arith, activity-small (c .before .before .before .before .before .before .args .resources) (line .first) (line .second) (sym (c .before .before .is-activity .ensures) ∙ c .if1 .taken))
+    let test = c .before .before in
+    let start = test .before .before .before .before in
+    omega (
+      arith,
+      duration-between (start .args .resources) (said (test .before))
+          (sym (test .is-activity .ensures) ∙ c .if1 .taken),
+    )
 
 returns : tie.Need-returns
 returns c =
-    let start = c .before .before .before .before .before .before in
-    let line = c .before .before .before .read-line in
-    let judged = c .before .judged in
-    activity-reads (start .args .file .now) (start .args .state) (judged .result) (line .result) (c .before .before .is-activity .result) (judged .ensures)
-    (line .ensures) (start .args .resources) (record { resource = line .result .first; duration = line .result .second }) (c .before .before .is-activity .ensures) (λ t. refl)
+    let test = c .before .before in
+    let start = test .before .before .before .before in
+    pair-reads (c .before .take-line .ensures) actForm (test .before .read-line .ensures) activities
+    (isActivity (start .args .resources)) refl (test .is-activity .ensures) (λ t. refl)
 
 returns-2 : tie.Need-returns-2
 returns-2 c =
-    let start = c .before .before .before .before .before .before in
-    let line = c .before .before .before .read-line in
-    let judged = c .before .judged in
-    activity-reads (start .args .file .now) (start .args .state) (judged .result) (line .result) (c .before .before .is-activity .result) (judged .ensures)
-    (line .ensures) (start .args .resources) (record { resource = 0; duration = 0 }) (c .before .before .is-activity .ensures) (λ t. false-true (sym (c .if1 .left) ∙ t))
+    let test = c .before .before in
+    let start = test .before .before .before .before in
+    pair-reads (c .before .take-line .ensures) actForm (test .before .read-line .ensures) activities
+    (isActivity (start .args .resources)) refl (test .is-activity .ensures) (λ t. true-not-false t (c .if1 .left))
 
 pub read-activity-spec : {M : Type 1} → statement M
 read-activity-spec =
@@ -52,7 +68,7 @@ read-activity-spec =
     slice-aggregate-read-line
     read-line-requires
     is-activity-requires
-    judged-requires
+    take-line-requires
     cast-t15
     cast-t16
     returns

@@ -1,7 +1,8 @@
 -- A value out of range is kept as 0.
 use mathlib.Core.Path.{refl, sym, _∙_}
 use native.Mathlib.Omega.{arith}
-use Rattle.parser.proofs.Cases.{false-true, between-true}
+use Rattle.base.proofs.Bools.{true-not-false}
+use Rattle.format.proofs.Tests.{between-facts}
 use Rattle.parser.proofs.Readers.{count-reads}
 use borrow.Author.Needs.{needs}
 use Rattle.parser.proofs.read_count.Statement.{statement}
@@ -13,33 +14,36 @@ read-line-requires c κs = search needs
 in-range-requires : tie.Need-in-range-requires
 in-range-requires c κs = search needs
 
-judged-requires : tie.Need-judged-requires
-judged-requires c κs = search needs
+take-line-requires : tie.Need-take-line-requires
+take-line-requires c κs = search needs
 
 returns : tie.Need-returns
 returns c =
-    let start = c .before .before .before .before .before .before in
-    let line = c .before .before .before .read-line in
-    let judged = c .before .judged in
+    let test = c .before .before in
+    let line = test .before .read-line in
+    let start = test .before .before .before .before in
+    let low = start .args .low in
+    let high = start .args .high in
     record {
       reads =
-          count-reads (start .args .file .now) (start .args .state) (judged .result) (line .result) (c .before .before .in-range .result) (judged .ensures) (start .args .form .now) (line .ensures)
-          (start .pre .1) (start .args .low) (start .args .high) (line .result .second) (c .before .before .in-range .ensures) (λ t. refl);
-      most = between-true (start .args .low) (start .args .high) (line .result .second) (sym (c .before .before .in-range .ensures) ∙ c .if1 .taken) .1;
+          count-reads (c .before .take-line .ensures) (start .args .form .now) (line .ensures) low high
+          (start .pre .1)
+          (test .in-range .ensures) (λ t. refl);
+      most = between-facts low high (line .result .second) (sym (test .in-range .ensures) ∙ c .if1 .taken) .1;
     }
 
 returns-2 : tie.Need-returns-2
 returns-2 c =
-    let start = c .before .before .before .before .before .before in
-    let line = c .before .before .before .read-line in
-    let judged = c .before .judged in
+    let test = c .before .before in
+    let start = test .before .before .before .before in
     record {
       reads =
-          count-reads (start .args .file .now) (start .args .state) (judged .result) (line .result) (c .before .before .in-range .result) (judged .ensures) (start .args .form .now) (line .ensures)
-          (start .pre .1) (start .args .low) (start .args .high) 0 (c .before .before .in-range .ensures) (λ t. false-true (sym (c .if1 .left) ∙ t));
+          count-reads (c .before .take-line .ensures) (start .args .form .now) (test .before .read-line .ensures)
+          (start .args .low) (start .args .high) (start .pre .1) (test .in-range .ensures)
+          (λ t. true-not-false t (c .if1 .left));
       most = omega arith;
     }
 
 pub read-count-spec : {M : Type 1} → statement M
 read-count-spec =
-    tie.close (tie.spec read-line-requires in-range-requires judged-requires returns returns-2)
+    tie.close (tie.spec read-line-requires in-range-requires take-line-requires returns returns-2)

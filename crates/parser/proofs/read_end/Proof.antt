@@ -1,5 +1,5 @@
 -- The end of the text, or a line too many.
-use Rattle.parser.proofs.States.{end-here, end-later}
+use Rattle.parser.proofs.Cursors.{end-here, end-later}
 use borrow.Author.Needs.{needs}
 use Rattle.parser.proofs.read_end.Statement.{statement}
 use Rattle.parser.proofs.read_end.Tie as tie
@@ -10,12 +10,12 @@ nowhere-requires c κs = search needs
 returns : tie.Need-returns
 returns c =
     let start = c .before .before .before .before in
-    end-later (start .args .file .now) (start .args .state) (c .before .if1 .taken) (c .nowhere .result) (c .nowhere .ensures)
+    end-later (start .args .file .now) (start .args .cursor) (c .before .if1 .taken) (c .nowhere .ensures)
 
 returns-2 : tie.Need-returns-2
 returns-2 c =
     let start = c .before .before .before in
-    end-here (start .args .file .now) (start .args .state) (c .if1 .left)
+    end-here (start .args .file .now) (start .args .cursor) (c .if1 .left)
 
 pub read-end-spec : {M : Type 1} → statement M
 read-end-spec = tie.close (tie.spec nowhere-requires returns returns-2)

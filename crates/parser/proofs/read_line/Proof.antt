@@ -1,4 +1,4 @@
--- What is left of the form finds what the whole form finds.
+-- What is left of the form matches what the whole form matches.
 use Prim.Native.Nat.{_-_, _≤_}
 use mathlib.Core.Path.{_≡_, refl, _∙_}
 use native.Mathlib.Omega.{arith}
@@ -9,7 +9,8 @@ use Rattle.parser.proofs.read_line.Statement.{statement}
 use Rattle.parser.proofs.read_line.Tie as tie
 
 abbrev Inv-loop : tie.InvT-loop
-Inv-loop file at form line₀ i₀ line i = (i ≤ length form) × (advance (drop i form) (seen file line) ≡ advance form (seen file (started at)))
+Inv-loop file at form line₀ i₀ line i =
+    (i ≤ length form) × (advance (drop i form) (seen file line) ≡ advance form (seen file (started at)))
 
 abbrev μ-loop : tie.MeasureT-loop
 μ-loop file at form line₀ i₀ line i = length form - i
@@ -34,7 +35,8 @@ loop-again c =
     let start = c .before .before .before .before .before .before in
     let loop = c .before .before .before .loop in (
       omega arith,
-      line-again (start .args .file .now) (start .args .form .now) (loop .line) (loop .i) (c .piece .result) (omega arith) (c .piece .ensures)
+      line-again (start .args .file .now) (start .args .form .now) (loop .line) (loop .i) (c .piece .result)
+          (omega arith) (c .piece .ensures)
           ∙ loop .inv .1,
     )
 

@@ -1,9 +1,13 @@
 -- What fits is small enough for its table.
-use mathlib.Core.Path.{sym, _∙_}
+use mathlib.Core.Path.{sym, refl, ap₂, _∙_}
 use native.Mathlib.Omega.{arith}
-use Rattle.plan.specs.Plan.{nodeOf}
-use Rattle.parser.proofs.Cases.{false-true}
-use Rattle.parser.proofs.Readers.{node-reads, node-small}
+use Rattle.plan.specs.Limits.{nodeForm}
+use Rattle.plan.specs.Plan.{nodeOf, isNode}
+use Rattle.base.proofs.Bools.{true-not-false}
+use Rattle.plan.proofs.Nodes.{node-number}
+use Rattle.format.proofs.Columns.{nodes}
+use Rattle.format.proofs.Plans.{node-same, number-most}
+use Rattle.parser.proofs.Readers.{pair-reads}
 use borrow.Author.Needs.{needs}
 use Rattle.parser.proofs.read_node.Statement.{statement}
 use Rattle.parser.proofs.read_node.Tie as tie
@@ -14,37 +18,50 @@ slice-aggregate-read-line c = search needs
 read-line-requires : tie.Need-read-line-requires
 read-line-requires c κs = search needs
 
-letter-byte-requires : tie.Need-letter-byte-requires
-letter-byte-requires c κs = search needs
+letter-of-requires : tie.Need-letter-of-requires
+letter-of-requires c κs = search needs
 
 is-node-requires : tie.Need-is-node-requires
 is-node-requires c κs = search needs
 
-judged-requires : tie.Need-judged-requires
-judged-requires c κs = search needs
+take-line-requires : tie.Need-take-line-requires
+take-line-requires c κs = search needs
 
 cast-t15 : tie.Need-cast-t15
 cast-t15 c =
-    let line = c .before .before .before .before .read-line .result in
-    omega (arith, node-small (c .before .before .before .before .before .before .before .args .acts) (line .first) (line .second) (c .before .before .before .before .before .before .before .pre .1) (sym (c .before .before .is-node .ensures) ∙ c .if1 .taken))
+    let test = c .before .before in
+    let line = test .before .before in
+    let start = line .before .before .before in
+    let letter = line .read-line .result .first in
+    let number = line .read-line .result .second in
+    omega (
+      arith,
+      node-number letter number,
+      number-most (start .args .acts) (nodeOf letter number) (start .pre .1)
+          (sym (test .is-node .ensures) ∙ c .if1 .taken),
+    )
 
 returns : tie.Need-returns
 returns c =
-    let start = c .before .before .before .before .before .before .before in
-    let line = c .before .before .before .before .read-line in
-    let judged = c .before .judged in
-    node-reads (start .args .file .now) (start .args .state) (judged .result) (line .result) (c .before .before .is-node .result) (judged .ensures)
-    (line .ensures) (start .args .acts) (nodeOf (c .before .before .before .letter-byte .result) (line .result .second)) (c .before .before .is-node .ensures)
-    (λ t. sym (c .before .before .before .letter-byte .ensures (line .result .second)))
+    let test = c .before .before in
+    let line = test .before .before in
+    let start = line .before .before .before in
+    let letter = line .read-line .result .first in
+    let number = line .read-line .result .second in
+    pair-reads (c .before .take-line .ensures) nodeForm (line .read-line .ensures) nodes
+    (isNode (start .args .acts)) refl
+    (test .is-node .ensures)
+    (λ t. sym (ap₂ nodeOf (test .before .letter-of .ensures number) (sym (node-number letter number))
+    ∙ node-same (nodeOf letter number)))
 
 returns-2 : tie.Need-returns-2
 returns-2 c =
-    let start = c .before .before .before .before .before .before .before in
-    let line = c .before .before .before .before .read-line in
-    let judged = c .before .judged in
-    node-reads (start .args .file .now) (start .args .state) (judged .result) (line .result) (c .before .before .is-node .result) (judged .ensures)
-    (line .ensures) (start .args .acts) (nodeOf (c .before .before .before .letter-byte .result) 0) (c .before .before .is-node .ensures)
-    (λ t. false-true (sym (c .if1 .left) ∙ t))
+    let test = c .before .before in
+    let line = test .before .before in
+    let start = line .before .before .before in
+    pair-reads (c .before .take-line .ensures) nodeForm (line .read-line .ensures) nodes
+    (isNode (start .args .acts)) refl
+    (test .is-node .ensures) (λ t. true-not-false t (c .if1 .left))
 
 pub read-node-spec : {M : Type 1} → statement M
 read-node-spec =
@@ -52,9 +69,9 @@ read-node-spec =
     (tie.spec
     slice-aggregate-read-line
     read-line-requires
-    letter-byte-requires
+    letter-of-requires
     is-node-requires
-    judged-requires
+    take-line-requires
     cast-t15
     returns
     returns-2)

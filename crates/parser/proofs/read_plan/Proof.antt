@@ -2,7 +2,6 @@
 use mathlib.Core.Path.{refl}
 use native.Mathlib.Omega.{arith}
 use lib.Dec.{lit<}
-use Rattle.parser.specs.Steps.{holes}
 use Rattle.parser.proofs.Whole.{answers}
 use borrow.Author.Needs.{needs}
 use Rattle.parser.proofs.read_plan.Statement.{statement}
@@ -12,21 +11,18 @@ slice-aggregate-read-count : tie.Need-slice-aggregate-read-count
 slice-aggregate-read-count c = search needs
 
 read-count-requires : tie.Need-read-count-requires
-unfolding holes
 read-count-requires c κs = (lit< tt, refl)
 
 slice-aggregate-read-count-2 : tie.Need-slice-aggregate-read-count-2
 slice-aggregate-read-count-2 c = search needs
 
 read-count-requires-2 : tie.Need-read-count-requires-2
-unfolding holes
 read-count-requires-2 c κs = (omega arith, refl)
 
 slice-aggregate-read-count-3 : tie.Need-slice-aggregate-read-count-3
 slice-aggregate-read-count-3 c = search needs
 
 read-count-requires-3 : tie.Need-read-count-requires-3
-unfolding holes
 read-count-requires-3 c κs = (omega arith, refl)
 
 cast-count : tie.Need-cast-count
@@ -39,7 +35,6 @@ slice-aggregate-read-count-4 : tie.Need-slice-aggregate-read-count-4
 slice-aggregate-read-count-4 c = search needs
 
 read-count-requires-4 : tie.Need-read-count-requires-4
-unfolding holes
 read-count-requires-4 c κs = (omega arith, refl)
 
 cast-size : tie.Need-cast-size
@@ -66,8 +61,12 @@ read-nodes-requires c κs =
 read-end-requires : tie.Need-read-end-requires
 read-end-requires c κs = search needs
 
+-- From the last step back to the line of the resources.
+abbrev resources-line : tie.After-read-end → tie.After-read-count2
+resources-line c = c .before .before .before .before .before .before .before .before .before
+
 cast-t30 : tie.Need-cast-t30
-cast-t30 c = omega (arith, c .before .before .before .before .before .before .before .before .before .before .before .before .before .before .read-count2 .ensures .most)
+cast-t30 c = omega (arith, resources-line (c .before .before .before .before .before) .read-count2 .ensures .most)
 
 verdict-of-requires : tie.Need-verdict-of-requires
 verdict-of-requires c κs = search needs
@@ -82,13 +81,10 @@ returns c =
     let resources = acts .before .before in
     let edition = resources .before .before in
     let start = edition .before .before .before in
-    answers (start .args .file .now) (edition .read-count .result .state) (resources .read-count2 .result .state)
-    (acts .read-count3 .result .state) (table .read-activities .result .state) (nodes .read-count4 .result .state)
-    (tree .read-nodes .result .state) (end .read-end .result) (edition .read-count .result .value) (resources .read-count2 .result .value)
-    (acts .read-count3 .result .value) (nodes .read-count4 .result .value) _ _ (edition .read-count .ensures .reads)
-    (resources .read-count2 .ensures .reads) (acts .read-count3 .ensures .reads) (table .read-activities .ensures)
-    (nodes .read-count4 .ensures .reads) (tree .read-nodes .ensures) (end .read-end .ensures) (start .pre .0) (start .pre .1)
-    (c .verdict-of .result) _ (c .verdict-of .ensures) refl (acts .read-count3 .ensures .most) (nodes .read-count4 .ensures .most)
+    answers (edition .read-count .ensures .reads) (resources .read-count2 .ensures .reads)
+    (acts .read-count3 .ensures .reads) (table .read-activities .ensures) (nodes .read-count4 .ensures .reads)
+    (tree .read-nodes .ensures) (end .read-end .ensures) (start .pre .0) (start .pre .1) (c .verdict-of .ensures) refl
+    (acts .read-count3 .ensures .most) (nodes .read-count4 .ensures .most)
 
 pub read-plan-spec : {M : Type 1} → statement M
 read-plan-spec =

@@ -11,21 +11,23 @@ judge-requires c κs = search needs
 enum-told : tie.Need-enum-told
 enum-told c = search needs
 
-cast-t9 : tie.Need-cast-t9
-cast-t9 c = search needs
+cast-t10 : tie.Need-cast-t10
+cast-t10 c = search needs
 
 enum-known-verdict : tie.Need-enum-known-verdict
 enum-known-verdict c = search needs
 
 returns : tie.Need-returns
 returns c =
-    let b = c .before .before .before .before in
-    reads-plan (now (b .before .before .args .file)) (b .judge .result) (b .judge .ensures .accepted (c .before .enum-told .given .1))
+    let b = c .before .before .before .before .before in
+    let (t, is, holds) = b .judge .ensures .accepted (c .before .enum-told .given .1) in
+    reads-plan (now (b .before .before .args .file)) (b .judge .result .campaign) t is holds
 
 returns-2 : tie.Need-returns-2
 returns-2 c =
-    let b = c .before .before .before .before in
-    reads-refusal (now (b .before .before .args .file)) _ (b .judge .ensures .refused _ (c .before .verdict .given .1))
+    let b = c .before .before .before .before .before in
+    reads-refusal (now (b .before .before .args .file)) _
+    (b .judge .ensures .refused _ (c .before .verdict .given .1))
 
 pub read-spec : {M : Type 1} → statement M
-read-spec = tie.close (tie.spec judge-requires enum-told cast-t9 enum-known-verdict returns returns-2)
+read-spec = tie.close (tie.spec judge-requires enum-told cast-t10 enum-known-verdict returns returns-2)

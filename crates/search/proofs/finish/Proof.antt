@@ -1,109 +1,94 @@
 -- `finish` meets its contract: the last activity left wants no resource twice.
-use mathlib.Core.Path.{refl, ap, _∙_}
-use Prim.Native.Nat.{ℕ, _+_, _/_}
+use mathlib.Core.Path.{refl, _∙_}
+use Prim.Native.Nat.{_-_, _^_, _<_, max}
 use native.Mathlib.Omega.{arith}
 use borrow.Author.Needs.{needs}
-use Rattle.members.proofs.Members.{lowest-below}
-use Rattle.network.specs.Network.{packedAt}
-use Rattle.search.proofs.Settled.{settling-start, settling-last, last-small, last-apart, settled-ended, settled-last, settled-leaf, settled-dead}
+use lib.ListN.{set}
+use Rattle.sets.specs.Sets.{most}
+use Rattle.sets.proofs.Members.{lowest-below}
+use Rattle.search.specs.Standing.{Position, position}
+use Rattle.search.proofs.Settled.{Settling, settling-start, settling-last, last-apart, settled-leaf}
+use Rattle.search.proofs.Settled.{settled-seen, settled-dead}
 use Rattle.search.proofs.finish.Statement.{statement}
 use Rattle.search.proofs.finish.Tie as tie
+
+below : (c : tie.After-lowest) → c .lowest .result < most
+below c =
+    let start = c .before .before .before in
+    lowest-below (start .args .cands) (c .lowest .result) (start .pre .0 .at .low) (c .before .if1 .taken)
+    (c .lowest .ensures)
+
+abbrev start : tie.After-earliest-end → tie.Start
+start c = c .before .before .before .before .before
+
+-- Where the search stands at the start, and once the activity is frozen.
+abbrev from : tie.Start → Position
+from s = position (s .args .left) (s .args .cands) (s .args .latest) (s .args .work .now)
+
+abbrev to : tie.After-earliest-end → Position
+to c =
+    let i = c .before .before .lowest .result in
+    let a = start c .args in
+    position 0 (a .cands - 2 ^ i) (max (a .latest) (c .earliest-end .result))
+    (set (a .work .now) i (c .earliest-end .result))
+
+frozen : (c : tie.After-earliest-end) → Settling (start c .args .table .now) (from (start c)) (to c)
+frozen c =
+    let s = start c in
+    let low = c .before .before in
+    settling-last (s .pre .0) (s .pre .1) (s .pre .2) (low .before .if1 .taken) (low .lowest .ensures)
+    (c .earliest-end .ensures)
 
 lowest-requires : tie.Need-lowest-requires
 lowest-requires c κs = search needs
 
-earliest-start-requires : tie.Need-earliest-start-requires
-earliest-start-requires c κs =
-    let start = c .before .before .before .before in
-    lowest-below (start .args .cands) (c .before .lowest .result) (start .pre .5 .1 .low) (c .before .before .if1 .taken) (c .before .lowest .ensures)
-
-mul-end : tie.Need-mul-end
-mul-end c =
-    let low = c .before .before in
-    let start = low .before .before .before in
-    omega (arith, lowest-below (start .args .cands) (low .lowest .result) (start .pre .5 .1 .low) (low .before .if1 .taken) (low .lowest .ensures))
-
-element-copy-out-end : tie.Need-element-copy-out-end
-element-copy-out-end c =
-    let low = c .before .before in
-    let start = low .before .before .before in
-    omega (arith, lowest-below (start .args .cands) (low .lowest .result) (start .pre .5 .1 .low) (low .before .if1 .taken) (low .lowest .ensures))
-
-add-end : tie.Need-add-end
-add-end c =
-    let low = c .before .before .before in
-    let start = low .before .before .before in
-    let w : ℕ = packedAt (start .args .table .now) (low .lowest .result) / 16 in
-    omega (
-      arith,
-      last-small (start .pre .0) (start .pre .1) (start .pre .3) (start .pre .4) (start .pre .5) (low .before .if1 .taken) (low .lowest .ensures)
-          (ap (_+ w) (c .before .earliest-start .ensures)),
-    )
+earliest-end-requires : tie.Need-earliest-end-requires
+earliest-end-requires c κs = (below (c .before), c .before .before .before .before .pre .0 .timed)
 
 mul-work : tie.Need-mul-work
-mul-work c =
-    let low = c .before .before .before in
-    let start = low .before .before .before in
-    omega (arith, lowest-below (start .args .cands) (low .lowest .result) (start .pre .5 .1 .low) (low .before .if1 .taken) (low .lowest .ensures))
+mul-work c = omega (arith, below (c .before .before))
 
 element-write-work : tie.Need-element-write-work
-element-write-work c =
-    let low = c .before .before .before in
-    let start = low .before .before .before in
-    omega (arith, lowest-below (start .args .cands) (low .lowest .result) (start .pre .5 .1 .low) (low .before .if1 .taken) (low .lowest .ensures))
+element-write-work c = omega (arith, below (c .before .before))
 
 later-requires : tie.Need-later-requires
 later-requires c κs = search needs
 
 leave-requires : tie.Need-leave-requires
 leave-requires c κs =
-    let low = c .before .before .before .before .before .before .before in
-    let start = low .before .before .before in
-    let w : ℕ = packedAt (start .args .table .now) (low .lowest .result) / 16 in
-    let settled =
-    settling-last (start .pre .0) (start .pre .1) (start .pre .3) (start .pre .4) (start .pre .5) (low .before .if1 .taken) (low .lowest .ensures)
-    (ap (_+ w) (c .before .before .before .before .before .earliest-start .ensures)) in
-    let apart = last-apart (start .pre .0) (start .pre .3) (start .pre .4) (start .pre .5) in (
-      settled-ended (start .pre .0) apart (start .pre .5) settled refl,
-      start .pre .0,
-      start .pre .2,
-      c .before .before .later .ensures ∙ settled-last (start .pre .0) apart (start .pre .5) settled refl,
-    )
+    let done = c .before .before .before .before in
+    let s = start done in
+    let leaf = settled-leaf (s .pre .0) (last-apart (s .pre .0) (s .pre .1) (s .pre .2)) (frozen done) refl in
+    record {
+      ended = leaf .ended;
+      fit = leaf .fit;
+      tally = leaf .tally;
+      last = c .before .before .later .ensures ∙ leaf .last;
+    }
 
 same-length : tie.Need-same-length
 same-length c = search needs
 
 returns : tie.Need-returns
 returns c =
-    let low = c .before .before .before .before .before .before .before .before .before .before in
-    let start = low .before .before .before in
-    let w : ℕ = packedAt (start .args .table .now) (low .lowest .result) / 16 in
-    let settled =
-    settling-last (start .pre .0) (start .pre .1) (start .pre .3) (start .pre .4) (start .pre .5) (low .before .if1 .taken) (low .lowest .ensures)
-    (ap (_+ w) (c .before .before .before .before .before .before .before .before .earliest-start .ensures)) in
-    let apart = last-apart (start .pre .0) (start .pre .3) (start .pre .4) (start .pre .5) in (
-      settled .beside,
-      settled-leaf (start .pre .0) apart (start .pre .5) settled refl (c .before .before .leave .ensures .0) (c .before .before .leave .ensures .1),
-    )
+    let done = c .before .before .before .before .before .before .before in
+    let s = start done in
+    let left = c .before .before .leave .ensures in
+    settled-seen (s .pre .0) (last-apart (s .pre .0) (s .pre .1) (s .pre .2)) (frozen done) refl (left .0) (left .1)
 
 returns-2 : tie.Need-returns-2
 returns-2 c =
-    let start = c .before .before in
-    let settled = settling-start (start .args .table .now) (start .args .left) (start .args .cands) (start .args .latest) (start .args .work .now) (start .pre .1) in
-    let apart = last-apart (start .pre .0) (start .pre .3) (start .pre .4) (start .pre .5) in (
-      settled .beside,
-      settled-dead (start .pre .0) apart (start .pre .5) settled (c .if1 .left) (λ e. absurd (omega (arith, start .pre .3))) (start .pre .2),
-    )
+    let s = c .before .before in
+    settled-dead (s .pre .0) (last-apart (s .pre .0) (s .pre .1) (s .pre .2))
+    (settling-start (s .args .table .now) (from s) (s .pre .0 .timed)) (c .if1 .left)
+    (λ e. absurd (omega (arith, s .pre .1)))
 
 pub finish-spec : {M : Type 1} → statement M
 finish-spec =
     tie.close
     (tie.spec
     lowest-requires
-    earliest-start-requires
-    mul-end
-    element-copy-out-end
-    add-end
+    earliest-end-requires
     mul-work
     element-write-work
     later-requires

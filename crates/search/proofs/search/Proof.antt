@@ -4,23 +4,20 @@ use mathlib.Core.Path.{ap, _∙_}
 use Prim.Native.Nat.{ℕ}
 use native.Mathlib.Omega.{arith}
 use lib.ListN.{replicate}
-use Rattle.scan.proofs.Model.{root}
 use Rattle.search.specs.Seen.{kept}
-use Rattle.choices.specs.Work.{Timed}
-use Rattle.search.specs.Standing.{Fit, AtNode}
-use Rattle.search.proofs.Entry.{tabled, fit, root-timed, root-at, all-found}
+use Rattle.candidates.specs.Work.{workCells}
+use Rattle.search.specs.Standing.{position, Standing}
+use Rattle.search.proofs.Entry.{root-standing, all-found}
 use Rattle.search.specs.declared.Tally.{Tally}
 use borrow.Author.Needs.{needs}
 use Rattle.search.proofs.search.Statement.{statement}
 use Rattle.search.proofs.search.Tie as tie
 
 network-requires : tie.Need-network-requires
-network-requires c κs =
-    let a = c .before .args in
-    tabled (a .durations .now) (a .resources .now) (a .preds .now) (a .acts) (a .present) (a .variant) (a .cap) (c .before .pre)
+network-requires c κs = search needs
 
 opened-requires : tie.Need-opened-requires
-opened-requires c κs = search needs
+opened-requires c κs = c .before .before .before .pre .held .order .small
 
 cells-of-requires : tie.Need-cells-of-requires
 cells-of-requires c κs = search needs
@@ -32,30 +29,20 @@ start c = c .before .before .before .before .before
 abbrev table : tie.After-cells-of → List ℕ
 table c = c .before .before .before .network .result
 
-ready : (c : tie.After-cells-of) → Fit (table c) × Timed (table c) (replicate 80 0)
-ready c =
-    let a = start c .args in
-    let net = c .before .before .before .network .ensures in (
-      fit (a .durations .now) (a .resources .now) (a .preds .now) (a .acts) (a .present) (a .variant) (a .cap) (start c .pre) (table c) net,
-      root-timed (a .durations .now) (a .resources .now) (a .preds .now) (a .acts) (a .present) (a .variant) (a .cap) (start c .pre) (table c) net,
-    )
-
-at-root : (c : tie.After-cells-of)
-    → AtNode (table c) (start c .args .present) (c .before .opened .result) 0 (replicate 80 0) (root (start c .args .present))
-at-root c =
-    let a = start c .args in
-    root-at (a .durations .now) (a .resources .now) (a .preds .now) (a .acts) (a .present) (a .variant) (a .cap) (start c .pre) (table c) (c .before .before .before .network .ensures)
-    (c .before .opened .result) (c .before .opened .ensures)
+standing : (c : tie.After-cells-of)
+    → Standing (table c) (position (start c .args .x .present) (c .before .opened .result) 0 (replicate workCells 0))
+    (c .cells-of .result)
+standing c =
+    root-standing (start c .pre) (omega (arith, start c .fits .cap)) (c .before .before .before .network .ensures)
+    (c .before .opened .result) (c .before .opened .ensures) (c .cells-of .result) (c .cells-of .ensures .0)
 
 descend-requires : tie.Need-descend-requires
-descend-requires c κs =
-    let at = c .before .before .before .before in
-    (ready at .0, ready at .1, at .cells-of .ensures .0, (λ some. absurd (omega arith)), (root (start at .args .present), at-root at))
+descend-requires c κs = (standing (c .before .before .before .before), (λ some. absurd (omega arith)))
 
 tally-of-requires : tie.Need-tally-of-requires
 tally-of-requires c κs =
-    let at = c .before .before .before .before .before .before .before .before in
-    c .before .before .before .descend .ensures .1 (root (start at .args .present)) (at-root at) .tally
+    let first = standing (c .before .before .before .before .before .before .before .before) in
+    c .before .before .before .descend .ensures .searched (first .state) (first .at) .tally
 
 same-length : tie.Need-same-length
 same-length c = search needs
@@ -68,8 +55,9 @@ returns c =
     let cells = went .last .1 .1 .1 .1 .1 .1 .0 in
     let area = went .last .1 .1 .1 .1 .1 .1 .1 .0 in
     ap (λ (t : Tally). kept t area) (c .tally-of .ensures)
-    ∙ all-found (a .durations .now) (a .resources .now) (a .preds .now) (a .acts) (a .present) (a .variant) (a .cap) (start at .pre) (table at) (at .before .before .before .network .ensures)
-    (a .tally) (at .cells-of .result) (a .area .now) cells area (at .cells-of .ensures .1) (went .ensures .1 (root (a .present)) (at-root at))
+    ∙ all-found (start at .pre) (omega (arith, start at .fits .cap)) (at .before .before .before .network .ensures)
+    (at .before .opened .result) (at .before .opened .ensures)
+    (ap (λ (t : Tally). kept t (a .area .now)) (at .cells-of .ensures .1)) (went .ensures)
 
 pub search-spec : {M : Type 1} → statement M
 search-spec =

@@ -10,7 +10,9 @@ single-requires : tie.Need-single-requires
 single-requires c κs = search needs
 
 returns : tie.Need-returns
-returns c = ap (bitXor (c .before .args .set)) (c .single .ensures) ∙ xor-single (c .before .args .set) (c .before .args .i) (c .before .pre .1)
+returns c =
+    ap (bitXor (c .before .args .set)) (c .single .ensures) ∙ xor-single (c .before .args .set) (c .before .args .i)
+    (c .before .pre .1)
 
 pub without-spec : {M : Type 1} → statement M
 without-spec = tie.close (tie.spec single-requires returns)

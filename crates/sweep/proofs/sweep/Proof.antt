@@ -1,49 +1,44 @@
--- `sweep::sweep` meets its contract: after v turns what is kept is what the first v variants leave.
+-- `sweep` meets its contract: after v turns what is kept is what the first v variants leave.
 use Prim.Native.Nat.{ℕ, _≤_, _-_}
 use native.Mathlib.Omega.{arith}
 use borrow.Author.Needs.{needs}
 use mathlib.Core.Path.{_≡_, refl, subst}
 use lib.ListN.{length}
-use Rattle.sweep.proofs.Turns.{SweptTo, swept-none, swept-next, swept-all, swept-over, posable}
+use Rattle.judge.proofs.Holding.{has-variant}
+use Rattle.sweep.proofs.Turns.{SweptTo, swept-none, swept-next, swept-all, swept-over}
 use Rattle.sweep.proofs.sweep.Statement.{statement}
 use Rattle.sweep.proofs.sweep.Tie as tie
 
 abbrev Inv-loop : tie.InvT-loop
-Inv-loop tables variants cap area₀ spans tally₀ v₀ area tally v = (v ≤ variants) × (length area ≡ length area₀) × SweptTo tables cap area₀ v tally area
+Inv-loop campaign cap area₀ tally₀ v₀ area tally v =
+    (v ≤ campaign .variants) × (length area ≡ length area₀) × SweptTo campaign cap area₀ v tally area
 
 abbrev μ-loop : tie.MeasureT-loop
-μ-loop tables variants cap area₀ spans tally₀ v₀ area tally v = variants - v
-
-spans-requires : tie.Need-spans-requires Inv-loop μ-loop
-spans-requires c κs = (c .before .pre .term, c .before .pre .holds)
+μ-loop campaign cap area₀ tally₀ v₀ area tally v = campaign .variants - v
 
 none-requires : tie.Need-none-requires Inv-loop μ-loop
 none-requires c κs = search needs
 
 loop-holds : tie.Need-loop-holds Inv-loop μ-loop
 loop-holds c =
-    let a = c .before .before .before .args in
-    (omega arith, refl, swept-none (a .tables) (a .cap) (a .area .now) (c .none .result) (c .none .ensures))
+    let a = c .before .before .args in
+    (omega arith, refl, swept-none (a .campaign) (a .cap) (a .area .now) (c .none .result) (c .none .ensures))
 
 same-length : tie.Need-same-length Inv-loop μ-loop
 same-length c = search needs
 
 returns : tie.Need-returns Inv-loop μ-loop
 returns c =
-    let at = c .before .before .before .loop in
-    let s = c .before .before .before .before .before .before .before in
-    swept-over (s .args .tables) (s .args .cap) (s .args .area .now) (s .args .variants) (s .pre) (at .v) (at .tally) (at .area)
-    (at .inv .0)
-    (c .if1 .taken)
-    (at .inv .2)
+    let l = c .before .before .before .before in
+    let a = l .before .before .before .args in
+    swept-over (a .campaign) (a .cap) (a .area .now) (l .loop .v) (l .loop .tally) (l .loop .area) (l .loop .inv .0)
+    (c .if2 .taken)
+    (l .loop .inv .2)
 
 search-variant-requires : tie.Need-search-variant-requires Inv-loop μ-loop
 search-variant-requires c κs =
-    let b = c .before .before .before .before .before .before in
-    let s = b .before .before in
-    posable (s .args .tables) (s .args .cap) (s .args .area .now) (s .args .variants) (s .pre) (b .spans .result) _
-    (omega (arith, c .before .before .before .loop-test .taken))
-    (b .spans .ensures)
+    let (t, h) = c .before .before .before .before .before .before .before .before .pre in
+    (t, has-variant h _ (omega (arith, c .before .before .before .if1 .taken)))
 
 add-v : tie.Need-add-v Inv-loop μ-loop
 add-v c = search needs
@@ -53,14 +48,18 @@ loop-less c = search needs
 
 loop-again : tie.Need-loop-again Inv-loop μ-loop
 loop-again c =
-    let at = c .before .before .before .before .before .before .before .loop in
-    let s = c .before .before .before .before .before .before .before .before .before .before .before in
-    let turn = c .before .before .search-variant in (
+    let turn = c .before .before in
+    let test = turn .before .before .before .before in
+    let l = test .before .before in
+    let a = l .before .before .before .args in (
       omega arith,
       search needs,
-      swept-next (s .args .tables) (s .args .cap) (s .args .area .now) (at .v) (at .tally) (turn .result) (at .area) (turn .last .1 .1 .1 .1 .1 .0)
-          (at .inv .2)
-          (turn .ensures),
+      swept-next (a .campaign) (a .cap) (a .area .now) (l .loop .v) (l .loop .tally) (turn .search-variant .result)
+          (l .loop .area)
+          (turn .search-variant .last .1 .1 .1 .1 .0)
+          (test .if1 .taken)
+          (l .loop .inv .2)
+          (turn .search-variant .ensures),
     )
 
 same-length-2 : tie.Need-same-length-2 Inv-loop μ-loop
@@ -68,11 +67,12 @@ same-length-2 c = search needs
 
 returns-2 : tie.Need-returns-2 Inv-loop μ-loop
 returns-2 c =
-    let at = c .before .loop in
-    let s = c .before .before .before .before .before in
-    let v : at .v ≡ s .args .variants = omega (arith, at .inv .0, c .loop-test .left) in
-    swept-all (s .args .tables) (s .args .cap) (s .args .area .now) (s .args .variants) (s .pre) (at .tally) (at .area)
-    (subst (λ (n : ℕ). SweptTo (s .args .tables) (s .args .cap) (s .args .area .now) n (at .tally) (at .area)) v (at .inv .2))
+    let l = c .before .before in
+    let a = l .before .before .before .args in
+    let v : l .loop .v ≡ a .campaign .variants = omega (arith, l .loop .inv .0, c .if1 .left) in
+    swept-all (a .campaign) (a .cap) (a .area .now) (l .loop .tally) (l .loop .area)
+    (subst (λ (n : ℕ). SweptTo (a .campaign) (a .cap) (a .area .now) n (l .loop .tally) (l .loop .area)) v
+    (l .loop .inv .2))
 
 pub sweep-spec : {M : Type 1} → statement M
 sweep-spec =
@@ -80,7 +80,6 @@ sweep-spec =
     (tie.spec
     Inv-loop
     μ-loop
-    spans-requires
     none-requires
     loop-holds
     same-length

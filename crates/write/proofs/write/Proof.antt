@@ -1,8 +1,14 @@
--- `write::write` meets its contract, by the judgement of the file and the steps of an accepted one.
+-- `write` meets its contract, by the judgement of the file and the steps of an accepted one.
 use borrow.Author.Needs.{needs}
 use denote.Ref.{now}
-use Rattle.read.specs.Answer.{Accepts}
-use Rattle.write.proofs.Writing.{has-variant, is-variant, writes-variant, writes-no-variant, writes-refusal}
+use mathlib.Core.Path.{_≡_}
+use Rattle.plan.specs.Plan.{planOf}
+use Rattle.term.specs.Term.{Term}
+use Rattle.judge.specs.Judge as spec
+use Rattle.judge.specs.Judge.{accepts}
+use Rattle.judge.specs.Campaign.{HoldsPlan}
+use Rattle.judge.proofs.Holding.{has-variant}
+use Rattle.write.proofs.Writing.{writes-variant, writes-no-variant, writes-refusal}
 use Rattle.write.proofs.write.Statement.{statement}
 use Rattle.write.proofs.write.Tie as tie
 
@@ -19,23 +25,20 @@ start j = j .before .before .before
 abbrev judged : tie.After-struct-known → tie.After-judge
 judged b = b .before .before .before .before
 
-accepted : (b : tie.After-struct-known) → Accepts (now (start (judged b) .args .file)) (judged b .judge .result)
+accepted : (b : tie.After-struct-known) → (t : Term)
+    ×
+    (spec.judge (now (start (judged b) .args .file)) ≡ accepts (planOf (judged b .judge .result .campaign .tables)) t)
+    × HoldsPlan (judged b .judge .result .campaign) t
 accepted b = judged b .judge .ensures .accepted (b .before .enum-told .given .1)
 
 variant-of-requires : tie.Need-variant-of-requires
-variant-of-requires c κs =
-    let j = judged (c .before) in
-    let a = start j .args in
-    has-variant (now (a .file)) (a .v) (j .judge .result) (accepted (c .before)) (c .if1 .taken)
+variant-of-requires c κs = let (t, is, h) = accepted (c .before) in (t, has-variant h _ (c .if1 .taken))
 
 write-plan-requires : tie.Need-write-plan-requires
 write-plan-requires c κs =
     let w = c .before in
-    let b = w .before .before in
-    let j = judged b in
-    let a = start j .args in
-    let below = w .before .if1 .taken in
-    let made = is-variant (now (a .file)) (a .v) (j .judge .result) (accepted b) below (w .variant-of .result) (w .variant-of .ensures) in
+    let (t, is, h) = accepted (w .before .before) in
+    let made = w .variant-of .ensures t (has-variant h _ (w .before .if1 .taken)) in
     (made .acts, made .nodes)
 
 enum-known-verdict : tie.Need-enum-known-verdict
@@ -50,21 +53,25 @@ returns c =
     let b = w .before .before in
     let j = judged b in
     let a = start j .args in
-    let below = w .before .if1 .taken in
-    writes-variant (now (a .file)) (a .v) (j .judge .result) (accepted b) below (w .variant-of .result) (w .variant-of .ensures) (now (a .area)) _
+    let (t, is, h) = accepted b in
+    writes-variant (now (a .file)) (a .v) (j .judge .result .campaign) t is h (w .variant-of .result)
+    (w .before .if1 .taken)
+    (w .variant-of .ensures t (has-variant h (a .v) (w .before .if1 .taken))) (now (a .area)) _
     (c .before .before .write-plan .ensures)
 
 returns-2 : tie.Need-returns-2
 returns-2 c =
     let j = judged (c .before) in
     let a = start j .args in
-    writes-no-variant (now (a .file)) (a .v) (j .judge .result) (accepted (c .before)) (now (a .area)) (c .if1 .left)
+    let (t, is, h) = accepted (c .before) in
+    writes-no-variant (now (a .file)) (a .v) (j .judge .result .campaign) t is h (now (a .area)) (c .if1 .left)
 
 returns-3 : tie.Need-returns-3
 returns-3 c =
     let j = c .before .before .before .before in
     let a = start j .args in
-    writes-refusal (now (a .file)) (a .v) _ (now (a .area)) (j .judge .ensures .refused _ (c .before .verdict .given .1))
+    writes-refusal (now (a .file)) (a .v) _ (now (a .area))
+    (j .judge .ensures .refused _ (c .before .verdict .given .1))
 
 pub write-spec : {M : Type 1} → statement M
 write-spec =

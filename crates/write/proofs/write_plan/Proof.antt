@@ -15,7 +15,8 @@ returns : tie.Need-returns
 returns c =
     let start = c .before .before .before in
     let measured = c .before .text-length in
-    bytes-too-many (text (planOf (start .args .tables))) (now (start .args .area)) (measured .result) (measured .ensures) (omega arith)
+    bytes-too-many (text (planOf (start .args .tables))) (now (start .args .area)) (measured .result)
+    (measured .ensures) (omega arith)
 
 write-text-requires : tie.Need-write-text-requires
 write-text-requires c κs = search needs
@@ -27,7 +28,8 @@ returns-2 : tie.Need-returns-2
 returns-2 c =
     let start = c .before .before .before .before .before .before .before in
     let wrote = c .before .before .write-text in
-    bytes-fit (text (planOf (start .args .tables))) (now (start .args .area)) (wrote .result) (wrote .last .1 .0) (omega arith) (wrote .ensures)
+    bytes-fit (text (planOf (start .args .tables))) (now (start .args .area)) (wrote .result) (wrote .last .1 .0)
+    (omega arith) (wrote .ensures)
 
 pub write-plan-spec : {M : Type 1} → statement M
 write-plan-spec = tie.close (tie.spec text-length-requires returns write-text-requires same-length returns-2)

@@ -1,4 +1,5 @@
--- `put_value` writes the digits of a number: all but the last by a call of itself, then the last. The measure is the number.
+-- `put_value` writes the digits of a number: all but the last by a call of itself, then the last. The measure is the
+-- number.
 use Prim.Native.Nat.{ℕ, _<_, _/_}
 use mathlib.Core.Path.{_∙_}
 use native.Mathlib.Omega.{arith}
@@ -69,7 +70,8 @@ module _ (t : ℕ) where
   returns-2 c =
       let called = c .before .before .before .before .before .before .before in
       let start = called .before .before .before .before in
-      last-digit (start .args .n) (omega arith) (omega (arith, start .fits .n)) (c .before .before .before .digit-of2 .ensures)
+      last-digit (start .args .n) (omega arith) (omega (arith, start .fits .n))
+      (c .before .before .before .digit-of2 .ensures)
       (called .put-value .ensures) (c .before .before .put-byte2 .ensures)
 
 pub +put-value-spec : {M : Type 1} → statement M

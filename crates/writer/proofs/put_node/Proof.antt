@@ -28,7 +28,8 @@ returns c =
     let called = c .before .before in
     let start = called .before .before .before .before .before .before .before in
     node-line (start .args .letter) (start .args .number)
-    (c .before .before .before .before .wide .ensures ∙ c .before .before .before .before .before .letter-of .ensures (start .args .number))
+    (c .before .before .before .before .wide .ensures
+    ∙ c .before .before .before .before .before .letter-of .ensures (start .args .number))
     (c .before .before .before .wide2 .ensures)
     (called .put-line .ensures)
 

@@ -14,7 +14,8 @@ returns : tie.Need-returns
 returns c = value-piece (c .before .before .before .before .if1 .taken) (c .before .before .put-value .ensures)
 
 cast-put-byte : tie.Need-cast-put-byte
-cast-put-byte c = let start = c .before .before .before .before in record { fits = start .pre .1 (c .before .if2 .taken) }
+cast-put-byte c =
+    let start = c .before .before .before .before in record { fits = start .pre .1 (c .before .if2 .taken) }
 
 put-byte-requires : tie.Need-put-byte-requires
 put-byte-requires c κs = search needs
@@ -32,7 +33,9 @@ same-length-3 : tie.Need-same-length-3
 same-length-3 c = search needs
 
 returns-3 : tie.Need-returns-3
-returns-3 c = literal-piece (c .before .before .before .before .before .if1 .left) (c .before .before .before .before .if2 .left) (c .before .before .put-byte2 .ensures)
+returns-3 c =
+    literal-piece (c .before .before .before .before .before .if1 .left)
+    (c .before .before .before .before .if2 .left) (c .before .before .put-byte2 .ensures)
 
 pub put-piece-spec : {M : Type 1} → statement M
 put-piece-spec =

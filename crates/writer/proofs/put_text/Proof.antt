@@ -5,8 +5,9 @@ use mathlib.Core.Path.{refl, sym, _∙_}
 use native.Mathlib.Omega.{arith}
 use lib.ListN.{length-map}
 use Rattle.plan.specs.Limits.{editionForm, resourcesForm, actsForm, nodesForm}
-use Rattle.writer.proofs.Laws.{wrote-short, no-letter}
-use Rattle.writer.proofs.Text.{Sized, text-wrote, activities-short}
+use Rattle.plan.specs.Plan.{Sized}
+use Rattle.writer.proofs.Laws.{wrote-short, letters-fit}
+use Rattle.writer.proofs.Text.{text-wrote, activities-short}
 use borrow.Author.Needs.{needs}
 use Rattle.writer.proofs.put_text.Statement.{statement}
 use Rattle.writer.proofs.put_text.Tie as tie
@@ -17,10 +18,8 @@ sized start =
     let t = start .args .tables in
     let fields = start .good .1 .0 .1 .1 in
     record {
-      acts = start .pre .0;
       resource = sym (length-map (t .resource) (λ v. v)) ∙ fields .1 .1 .0 .1 .0 .1;
       duration = sym (length-map (t .duration) (λ v. v)) ∙ fields .1 .1 .1 .0 .1 .0 .1;
-      nodes = start .pre .1;
       letter = sym (length-map (t .letter) (λ v. v)) ∙ fields .1 .1 .1 .1 .1 .0 .1 .0 .1;
       number = sym (length-map (t .number) (λ v. v)) ∙ fields .1 .1 .1 .1 .1 .1 .0 .1 .0 .1;
     }
@@ -51,7 +50,11 @@ at-edition c = omega (arith, wrote-short editionForm (1 ∷ 0 ∷ []) (c .put-li
 at-resources : (c : tie.After-put-line2) → c .put-line2 .result ≤ 65
 at-resources c =
     let t = start (edition-line c) .args .tables in
-    omega (arith, at-edition (edition-line c), wrote-short resourcesForm (t .resources ∷ 0 ∷ []) (c .put-line2 .ensures))
+    omega (
+      arith,
+      at-edition (edition-line c),
+      wrote-short resourcesForm (t .resources ∷ 0 ∷ []) (c .put-line2 .ensures),
+    )
 
 at-acts : (c : tie.After-put-line3) → c .put-line3 .result ≤ 100
 at-acts c =
@@ -61,7 +64,12 @@ at-acts c =
 at-activities : (c : tie.After-put-activities) → c .put-activities .result ≤ 1180
 at-activities c =
     let s = start (edition-line (resources-line (acts-line c))) in
-    omega (arith, at-acts (acts-line c), c .put-activities .ensures .place, activities-short (s .args .tables) (sized s))
+    omega (
+      arith,
+      at-acts (acts-line c),
+      c .put-activities .ensures .place,
+      activities-short (s .args .tables) (sized s) (s .pre .0) (s .pre .1),
+    )
 
 at-nodes : (c : tie.After-put-line4) → c .put-line4 .result ≤ 1220
 at-nodes c =
@@ -78,7 +86,8 @@ slice-aggregate-put-line-2 : tie.Need-slice-aggregate-put-line-2
 slice-aggregate-put-line-2 c = search needs
 
 put-line-requires-2 : tie.Need-put-line-requires-2
-put-line-requires-2 c κs = (omega (arith, at-edition (c .before .before .before .before)), omega arith, no-letter resourcesForm refl _ _)
+put-line-requires-2 c κs =
+    (omega (arith, at-edition (c .before .before .before .before)), omega arith, letters-fit resourcesForm refl _ _)
 
 slice-aggregate-put-line-3 : tie.Need-slice-aggregate-put-line-3
 slice-aggregate-put-line-3 c = search needs
@@ -87,7 +96,8 @@ cast-put-line : tie.Need-cast-put-line
 cast-put-line c = search needs
 
 put-line-requires-3 : tie.Need-put-line-requires-3
-put-line-requires-3 c κs = (omega (arith, at-resources (c .before .before .before .before)), omega arith, no-letter actsForm refl _ _)
+put-line-requires-3 c κs =
+    (omega (arith, at-resources (c .before .before .before .before)), omega arith, letters-fit actsForm refl _ _)
 
 put-activities-requires : tie.Need-put-activities-requires
 put-activities-requires c κs =
@@ -101,7 +111,8 @@ cast-put-line-2 : tie.Need-cast-put-line-2
 cast-put-line-2 c = search needs
 
 put-line-requires-4 : tie.Need-put-line-requires-4
-put-line-requires-4 c κs = (omega (arith, at-activities (c .before .before .before .before)), omega arith, no-letter nodesForm refl _ _)
+put-line-requires-4 c κs =
+    (omega (arith, at-activities (c .before .before .before .before)), omega arith, letters-fit nodesForm refl _ _)
 
 put-nodes-requires : tie.Need-put-nodes-requires
 put-nodes-requires c κs =
@@ -119,7 +130,7 @@ returns c =
     let line₃ = acts-line acts in
     let line₂ = resources-line line₃ in
     let line₁ = edition-line line₂ in
-    text-wrote (start line₁ .args .tables) (sized (start line₁))
+    text-wrote (start line₁ .args .tables) (sized (start line₁)) (start line₁ .pre .0) (start line₁ .pre .1)
     (line₁ .put-line .ensures) (line₂ .put-line2 .ensures) (line₃ .put-line3 .ensures)
     (acts .put-activities .ensures) (line₄ .put-line4 .ensures) (nodes .put-nodes .ensures)
 

@@ -1,7 +1,7 @@
--- `cells_of` meets its contract. The loop's invariant: the starts passed are stored behind the first three cells.
+-- `cells_of` meets its contract. The loop's invariant: the starts passed are stored in their cells.
 use mathlib.Core.Path.{_≡_, refl, sym, ap, _∙_}
 use mathlib.Core.List.{List, [], _∷_, map}
-use Prim.Native.Nat.{ℕ, zero, suc, _+_, _^_, _≤_, _<_, _-_}
+use Prim.Native.Nat.{ℕ, zero, suc, _≤_, _<_, _-_}
 use mir.Val.{Val}
 use denote.Shadow.{shadow}
 use denote.Array.{each}
@@ -10,20 +10,21 @@ use native.Mathlib.Omega.{arith}
 use lib.ListN.{length, getD, set, replicate, length-map, List·getD-map}
 use lib.Seq.{paste, paste-zero}
 use Rattle.timetable.specs.Mark.{places}
-use Rattle.search.specs.Seen.{tallyOf}
+use Rattle.search.specs.Seen.{tallyOf, startsFrom, tallyCells}
 use Rattle.search.proofs.Rows.{one-more, all-stored, tally-stored}
-use borrow.Author.Needs.{needs}
 use Rattle.search.proofs.leaf.cells_of.Statement.{statement}
+use Rattle.plan.specs.Limits.{cellValues}
 use Rattle.search.proofs.leaf.cells_of.Tie as tie
 
 abbrev Inv-loop : tie.InvT-loop
-Inv-loop cells₀ starts i₀ cells i = (i ≤ places) × (cells ≡ paste cells₀ 3 starts i)
+Inv-loop cells₀ starts i₀ cells i = (i ≤ places) × (cells ≡ paste cells₀ startsFrom starts i)
 
 abbrev μ-loop : tie.MeasureT-loop
 μ-loop cells₀ starts i₀ cells i = places - i
 
--- Each number of an array of 16-bit words is below 2 ^ 16.
-each-below : (xs : List ℕ) (us : List Val) → shadow (each ℕ (u16-field .row .own) xs us) → (i : ℕ) → i < length xs → getD xs i 0 < 2 ^ 16
+-- Each number of an array of 16-bit words is below cellValues.
+each-below : (xs : List ℕ) (us : List Val) → shadow (each ℕ (u16-field .row .own) xs us) → (i : ℕ) → i < length xs
+    → getD xs i 0 < cellValues
 each-below [] us h i l = absurd (omega arith)
 each-below (x ∷ xs) [] h i l = absurd h
 each-below (x ∷ xs) (u ∷ us) h zero l = omega (arith, h .0)
@@ -31,16 +32,25 @@ each-below (x ∷ xs) (u ∷ us) h (suc i) l = each-below xs us (h .1) i (omega 
 
 -- The array that stands in the tally.
 starts-sized : (start : tie.Start Inv-loop μ-loop) → length (start .args .tally .best .starts) ≡ places
-starts-sized start = sym (length-map (start .args .tally .best .starts) (λ v. v)) ∙ start .good .0 .1 .1 .1 .1 .1 .0 .1 .1 .0 .1 .0 .1
+starts-sized start =
+    sym (length-map (start .args .tally .best .starts) (λ v. v)) ∙ start .good .0 .1 .1 .1 .1 .1 .0 .1 .1 .0 .1 .0 .1
 
-starts-low : (start : tie.Start Inv-loop μ-loop) (i : ℕ) → i < places → getD (start .args .tally .best .starts) i 0 < 2 ^ 16
+starts-low : (start : tie.Start Inv-loop μ-loop) (i : ℕ) → i < places
+    → getD (start .args .tally .best .starts) i 0 < cellValues
 starts-low start i l =
     let s = start .args .tally .best .starts in
     let array = start .good .0 .1 .1 .1 .1 .1 .0 .1 .1 .0 in
-    omega (arith, List·getD-map (λ v. v) s i 0, each-below (map (λ v. v) s) (array .0) (array .1 .1) i (omega (arith, array .1 .0 .1)))
+    omega (
+      arith,
+      List·getD-map (λ v. v) s i 0,
+      each-below (map (λ v. v) s) (array .0) (array .1 .1) i
+          (omega (arith, array .1 .0 .1)),
+    )
 
 abbrev first : tie.Start Inv-loop μ-loop → List ℕ
-first start = let t = start .args .tally in set (set (set (replicate (3 + places) 0) 0 (t .count)) 1 (t .«best_end»)) 2 (t .«best_variant»)
+first start =
+    let t = start .args .tally in set (set (set (replicate tallyCells 0) 0 (t .count)) 1 (t .«best_end»)) 2
+    (t .«best_variant»)
 
 array-write-cells : tie.Need-array-write-cells Inv-loop μ-loop
 array-write-cells c = omega arith
@@ -52,7 +62,12 @@ array-write-cells-3 : tie.Need-array-write-cells-3 Inv-loop μ-loop
 array-write-cells-3 c = omega arith
 
 loop-holds : tie.Need-loop-holds Inv-loop μ-loop
-loop-holds c = let start = c .before .before in (omega arith, paste-zero (first start) 3 (start .args .tally .best .starts))
+loop-holds c =
+    let start = c .before .before in (
+      omega arith,
+      paste-zero (first start) startsFrom
+          (start .args .tally .best .starts),
+    )
 
 mul-cells : tie.Need-mul-cells Inv-loop μ-loop
 mul-cells c = omega arith
@@ -82,16 +97,23 @@ loop-again : tie.Need-loop-again Inv-loop μ-loop
 loop-again c =
     let at = c .before in
     let start = at .before .before .before in
-    let s = start .args .tally .best .starts in
-    (omega arith, one-more (first start) s (at .loop .cells) 3 (at .loop .i) (getD s (at .loop .i) 0) (omega arith) (omega (arith, starts-sized start)) refl (at .loop .inv .1))
+    let s = start .args .tally .best .starts in (
+      omega arith,
+      one-more (first start) s (at .loop .cells) startsFrom (at .loop .i) (getD s (at .loop .i) 0)
+          (omega arith) (omega (arith, starts-sized start)) refl (at .loop .inv .1),
+    )
 
 returns : tie.Need-returns Inv-loop μ-loop
 returns c =
     let at = c .before in
     let start = at .before .before .before in
     let s = start .args .tally .best .starts in
-    let back = all-stored (first start) s (at .loop .cells) (at .loop .i) (omega arith) refl (starts-sized start) (at .loop .inv .1) in
-    (tally-stored (first start) s (at .loop .cells) refl (starts-sized start) (starts-low start) back, ap tallyOf back)
+    let back =
+    all-stored (first start) s (at .loop .cells) (at .loop .i) (omega arith) refl (starts-sized start)
+    (at .loop .inv .1) in (
+      tally-stored (first start) s (at .loop .cells) refl (starts-sized start) (starts-low start) back,
+      ap tallyOf back,
+    )
 
 pub cells-of-spec : {M : Type 1} → statement M
 cells-of-spec =

@@ -1,7 +1,7 @@
 -- `leave` meets its contract.
 use native.Mathlib.Omega.{arith}
 use Rattle.search.specs.Seen.{settingIn}
-use Rattle.search.specs.Tables.{problemOf}
+use Rattle.search.specs.Tables.{problemIn}
 use Rattle.search.proofs.Rows.{seen-counted, seen-enough}
 use borrow.Author.Needs.{needs}
 use Rattle.search.proofs.leaf.leave.Statement.{statement}
@@ -22,12 +22,12 @@ element-copy-out-list c = search needs
 list-requires : tie.Need-list-requires
 list-requires c κs =
     let start = c .before .before .before .before .before .before in
-    (start .pre .0, start .pre .1, omega (arith, start .pre .1 .cap, c .before .before .if1 .taken))
+    (start .pre .ended, start .pre .fit, omega (arith, start .pre .fit .cap, c .before .before .if1 .taken))
 
 rank-requires : tie.Need-rank-requires
 rank-requires c κs =
     let start = c .before .before .before .before .before .before .before .before .before .before in
-    (start .pre .0, start .pre .1, start .pre .2, omega (arith, start .pre .1 .cap, c .before .before .before .before .before .before .if1 .taken), start .pre .3)
+    (start .pre, omega (arith, start .pre .fit .cap, c .before .before .before .before .before .before .if1 .taken))
 
 same-length : tie.Need-same-length
 same-length c = search needs
@@ -37,16 +37,22 @@ returns c =
     let a = c .before .before .before .before .before .before .before .before .before .before .before .args in
     let t = a .table .now in (
       c .rank .ensures .0,
-      seen-counted (problemOf t) (settingIn t) (a .work .now) (a .cells .now) (c .rank .last .1 .1 .1 .0) (a .area .now) (c .before .before .before .before .list .last .1 .1 .1 .0)
-          (c .before .before .before .before .before .before .before .if1 .taken) (c .rank .ensures .1) (c .before .before .before .before .list .ensures),
+      seen-counted (problemIn t) (settingIn t) (a .work .now) (a .cells .now) (c .rank .last .1 .1 .1 .0)
+          (a .area .now)
+          (c .before .before .before .before .list .last .1 .1 .1 .0)
+          (c .before .before .before .before .before .before .before .if1 .taken) (c .rank .ensures .1)
+          (c .before .before .before .before .list .ensures),
     )
 
 returns-2 : tie.Need-returns-2
 returns-2 c =
     let start = c .before .before .before .before in
     let a = start .args in
-    let t = a .table .now in
-    (start .pre .2, seen-enough (problemOf t) (settingIn t) (a .work .now) (a .cells .now) (a .area .now) (c .if1 .left))
+    let t = a .table .now in (
+      start .pre .tally,
+      seen-enough (problemIn t) (settingIn t) (a .work .now) (a .cells .now) (a .area .now)
+          (c .if1 .left),
+    )
 
 pub leave-spec : {M : Type 1} → statement M
 leave-spec =

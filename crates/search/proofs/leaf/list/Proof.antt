@@ -2,8 +2,8 @@
 use Prim.Native.Nat.{_+_, _*_}
 use native.Mathlib.Omega.{arith}
 use Rattle.network.specs.Network.{actsOf}
-use Rattle.search.specs.Seen.{rowOf, settingIn}
-use Rattle.search.specs.Tables.{problemOf}
+use Rattle.search.specs.Seen.{settingIn, rowIn}
+use Rattle.search.specs.Tables.{problemIn}
 use Rattle.search.proofs.Rows.{row-placed, row-length, row-at, placed-not}
 use borrow.Author.Needs.{needs}
 use Rattle.search.proofs.leaf.list.Statement.{statement}
@@ -55,17 +55,18 @@ returns : tie.Need-returns
 returns c =
     let a = c .before .before .before .before .before .before .before .args in
     let t = a .table .now in
-    row-placed (a .area .now) (rowOf (problemOf t) (settingIn t) (a .work .now)) (c .before .before .write-row .last .0) (a .count * (actsOf t + 1)) (actsOf t + 1)
+    row-placed (a .area .now) (rowIn t (a .work .now)) (c .before .before .write-row .last .0)
+    (a .count * (actsOf t + 1)) (actsOf t + 1)
     (omega (arith, c .before .before .before .before .if1 .taken))
-    (row-length (problemOf t) (settingIn t) (a .work .now))
+    (row-length (problemIn t) (settingIn t) (a .work .now))
     (c .before .before .write-row .ensures)
 
 returns-2 : tie.Need-returns-2
 returns-2 c =
     let a = c .before .before .before .args in
     let t = a .table .now in
-    placed-not (a .area .now) (rowOf (problemOf t) (settingIn t) (a .work .now)) (a .count * (actsOf t + 1))
-    (omega (arith, row-length (problemOf t) (settingIn t) (a .work .now), c .if1 .left))
+    placed-not (a .area .now) (rowIn t (a .work .now)) (a .count * (actsOf t + 1))
+    (omega (arith, row-length (problemIn t) (settingIn t) (a .work .now), c .if1 .left))
 
 pub list-spec : {M : Type 1} → statement M
 list-spec =

@@ -3,8 +3,8 @@ use Prim.Native.Nat.{_+_}
 use native.Mathlib.Omega.{arith}
 use lib.ListN.{getD, set}
 use Rattle.network.specs.Network.{variantOf}
-use Rattle.search.specs.Seen.{settingIn}
-use Rattle.search.specs.Tables.{problemOf}
+use Rattle.search.specs.Seen.{settingIn, countCell, bestEndCell, bestVariantCell}
+use Rattle.search.specs.Tables.{problemIn}
 use Rattle.search.proofs.Rows.{rank-sooner, rank-later, tally-set}
 use borrow.Author.Needs.{needs}
 use Rattle.search.proofs.leaf.rank.Statement.{statement}
@@ -38,10 +38,12 @@ keep-requires : tie.Need-keep-requires
 keep-requires c κs =
     let start = c .before .before .before .before .before in
     let a = start .args in
-    let counted = set (a .cells .now) 0 (getD (a .cells .now) 0 0 + 1) in (
-      start .pre .0,
-      tally-set (set counted 1 (a .latest)) 2 (variantOf (a .table .now)) (omega arith)
-          (tally-set counted 1 (a .latest) (omega arith) (tally-set (a .cells .now) 0 (getD (a .cells .now) 0 0 + 1) (omega arith) (start .pre .2))),
+    let more = getD (a .cells .now) countCell 0 + 1 in
+    let counted = set (a .cells .now) countCell more in (
+      start .pre .0 .ended,
+      tally-set (set counted bestEndCell (a .latest)) bestVariantCell (variantOf (a .table .now)) (omega arith)
+          (tally-set counted bestEndCell (a .latest) (omega arith)
+          (tally-set (a .cells .now) countCell more (omega arith) (start .pre .0 .tally))),
     )
 
 returns : tie.Need-returns
@@ -50,7 +52,8 @@ returns c =
     let a = start .args in
     let t = a .table .now in (
       c .keep .ensures .0,
-      rank-sooner (problemOf t) (settingIn t) (a .work .now) (a .latest) (start .pre .4) (a .cells .now) (c .keep .last .1 .1 .0) (start .pre .2) (c .before .before .before .if1 .taken)
+      rank-sooner (problemIn t) (settingIn t) (a .work .now) (a .latest) (start .pre .0 .last) (a .cells .now)
+          (c .keep .last .1 .1 .0) (start .pre .0 .tally) (c .before .before .before .if1 .taken)
           (c .keep .ensures .1),
     )
 
@@ -59,8 +62,9 @@ returns-2 c =
     let start = c .before .before .before in
     let a = start .args in
     let t = a .table .now in (
-      tally-set (a .cells .now) 0 (getD (a .cells .now) 0 0 + 1) (omega arith) (start .pre .2),
-      rank-later (problemOf t) (settingIn t) (a .work .now) (a .latest) (start .pre .4) (a .cells .now) (start .pre .2) (c .if1 .left),
+      tally-set (a .cells .now) countCell (getD (a .cells .now) countCell 0 + 1) (omega arith) (start .pre .0 .tally),
+      rank-later (problemIn t) (settingIn t) (a .work .now) (a .latest) (start .pre .0 .last) (a .cells .now)
+          (start .pre .0 .tally) (c .if1 .left),
     )
 
 pub rank-spec : {M : Type 1} → statement M

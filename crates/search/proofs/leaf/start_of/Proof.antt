@@ -1,6 +1,6 @@
 -- `start_of` meets its contract.
 use borrow.Author.Tests.{eq-eqb, ne-eqb}
-use Rattle.scan.proofs.Model.{startOf}
+use Rattle.scan.specs.Model.{startOf}
 use borrow.Author.Needs.{needs}
 use Rattle.search.proofs.leaf.start_of.Statement.{statement}
 use Rattle.search.proofs.leaf.start_of.Tie as tie

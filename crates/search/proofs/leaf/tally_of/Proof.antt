@@ -8,11 +8,12 @@ use Rattle.timetable.specs.Mark.{places}
 use Rattle.search.proofs.Rows.{one-copied}
 use borrow.Author.Needs.{needs}
 use Rattle.search.proofs.leaf.tally_of.Statement.{statement}
+use Rattle.search.specs.Seen.{startsFrom, countCell, bestEndCell, bestVariantCell}
 use Rattle.search.proofs.leaf.tally_of.Tie as tie
 
 abbrev Inv-loop : tie.InvT-loop
 Inv-loop cells best₀ i₀ best i =
-    (i ≤ places) × (length (best .starts) ≡ places) × (take i (best .starts) ≡ take i (drop 3 cells))
+    (i ≤ places) × (length (best .starts) ≡ places) × (take i (best .starts) ≡ take i (drop startsFrom cells))
 
 abbrev μ-loop : tie.MeasureT-loop
 μ-loop cells best₀ i₀ best i = places - i
@@ -55,9 +56,10 @@ loop-again c =
     let cells = at .before .before .args .cells .now in
     let i = at .loop .i in (
       omega arith,
-      length-set (at .loop .best .starts) i (getD cells (3 + i) 0) ∙ at .loop .inv .1,
-      one-copied (at .loop .best .starts) (drop 3 cells) i (getD cells (3 + i) 0) (omega arith) (omega (arith, length-drop 3 cells, at .before .before .pre .size))
-          (sym (getD-drop 3 cells i 0)) (at .loop .inv .2),
+      length-set (at .loop .best .starts) i (getD cells (startsFrom + i) 0) ∙ at .loop .inv .1,
+      one-copied (at .loop .best .starts) (drop startsFrom cells) i (getD cells (startsFrom + i) 0) (omega arith)
+          (omega (arith, length-drop startsFrom cells, at .before .before .pre .size))
+          (sym (getD-drop startsFrom cells i 0)) (at .loop .inv .2),
     )
 
 element-copy-out-t17 : tie.Need-element-copy-out-t17 Inv-loop μ-loop
@@ -74,12 +76,19 @@ returns c =
     let at = c .before .before .before .before in
     let cells = at .before .before .args .cells .now in
     let all : at .loop .i ≡ places = omega arith in
-    let same : at .loop .best .starts ≡ drop 3 cells =
+    let same : at .loop .best .starts ≡ drop startsFrom cells =
     sym (take-all places (at .loop .best .starts) (omega arith))
     ∙ ap (λ (k : ℕ). take k (at .loop .best .starts)) (sym all)
     ∙ at .loop .inv .2
-    ∙ take-all (at .loop .i) (drop 3 cells) (omega (arith, length-drop 3 cells, at .before .before .pre .size)) in
-    λ i. record { count = getD cells 0 0; «best_end» = getD cells 1 0; «best_variant» = getD cells 2 0; best = record { starts = same i } }
+    ∙ take-all (at .loop .i) (drop startsFrom cells)
+    (omega (arith, length-drop startsFrom cells, at .before .before .pre .size)) in
+    λ i.
+    record {
+      count = getD cells countCell 0;
+      «best_end» = getD cells bestEndCell 0;
+      «best_variant» = getD cells bestVariantCell 0;
+      best = record { starts = same i };
+    }
 
 pub tally-of-spec : {M : Type 1} → statement M
 tally-of-spec =

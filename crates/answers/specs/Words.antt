@@ -1,0 +1,36 @@
+-- The listing in the words of the paper, with no tests and no box.
+use Prim.Native.Nat.{ℕ, _<_}
+use mathlib.Core.List.{List, _∷_, _++_, List·Memᴰ, List·Nodup}
+use mathlib.Core.Logic.{_↔_}
+use mathlib.Core.Path.{_≡_}
+use lib.ListN.{length, drop}
+use Rattle.plan.specs.Plan.{Plan}
+use Rattle.term.specs.Term.{Term}
+use Rattle.term.specs.Variants.{variantCount}
+use Rattle.variant.specs.Project.{variantAt}
+use Rattle.variant.specs.Words.{ActiveSession}
+use Rattle.judge.specs.Judge.{judge, accepts}
+use Rattle.base.specs.Lists.{cellsOf}
+
+-- A row is v and then N starts: v is a variant, and the starts are an active session of it.
+pub record IsRow (p : Plan) (t : Term) (row : List ℕ) : Type 0 where
+  pub variant : ℕ
+  pub starts : List ℕ
+  pub whole : row ≡ variant ∷ starts
+  pub below : variant < variantCount t
+  pub session : ActiveSession p (variantAt t variant) starts
+
+-- Exactly these rows, and none of them twice.
+pub record Listing (p : Plan) (t : Term) (rows : List (List ℕ)) : Type 0 where
+  pub exactly : (row : List ℕ) → List·Memᴰ row rows ↔ IsRow p t row
+  pub once : List·Nodup rows
+
+-- What LIST leaves in the area when it answers n: n such rows from the front with no gap, and what stood behind them.
+pub record ListingOf (s : List ℕ) (n : ℕ) (before after : List ℕ) : Type 0 where
+  pub plan : Plan
+  pub term : Term
+  pub accepted : judge s ≡ accepts plan term
+  pub rows : List (List ℕ)
+  pub count : length rows ≡ n
+  pub cells : after ≡ cellsOf rows ++ drop (length (cellsOf rows)) before
+  pub listing : Listing plan term rows

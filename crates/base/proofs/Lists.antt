@@ -1,0 +1,220 @@
+-- Lists that `keep`, `gather` and `cellsOf` make: their members, how long they are, permutations part by part.
+use Prim.Native.Nat.{ℕ, zero, suc, _*_, _≤_, _<_}
+use native.Mathlib.Nat.{ℕ-set, not-suc-le-zero, suc-mul}
+use native.Mathlib.Decide.{ℕ-discrete}
+use native.Mathlib.Omega.{arith}
+use mathlib.Core.Bool.{Bool, true}
+use mathlib.Core.Path.{_≡_, refl, sym, _∙_, ap, ap₂}
+use mathlib.Core.HLevel.{⊥-prop}
+use mathlib.Core.Logic.{_≢_, ⊎-elim, ∥∥₁-elim, by-cases}
+use mathlib.Core.List.{List, [], _∷_, _++_, map, append-nil, Perm, Perm·refl, Perm·append, List·Memᴰ, List·Memᴰ·head}
+use mathlib.Core.List.{List·Memᴰ·tail, List·Mem, List·Memᴰ·not-nil, List·Memᴰ·cases-cons, Memᴰ·append-left}
+use mathlib.Core.List.{Memᴰ·append-right, List·Memᴰ·append-cases, List·Nodup, nodup-nil, nodup-cons, nodup-append}
+use mathlib.Core.List.{List·Permᴰ, List·Permᴰ·nil, List·Permᴰ·cons, List·Permᴰ·swap, List·Permᴰ·trans}
+use lib.ListN.{length, getD, take, length-append, length-take, List·getD-append}
+use lib.Seq.{ext-getD, getD-take, getD-append-seam}
+use Rattle.base.specs.Lists.{keep, gather, cellsOf}
+use Rattle.base.proofs.Bools.{by-bool, true-not-false}
+
+module _ {ℓ} {A : Type ℓ} where
+  -- A membership of which only the fact is known, where elements can be told apart.
+  decide-mem : Discrete A → (a : A) (l : List A) → Dec (List·Memᴰ a l)
+  decide-mem d a [] = no List·Memᴰ·not-nil
+  decide-mem d a (x ∷ xs) = step (d a x) (decide-mem d a xs)
+    where
+      step : Dec (a ≡ x) → Dec (List·Memᴰ a xs) → Dec (List·Memᴰ a (x ∷ xs))
+      step (yes e) m = yes (List·Memᴰ·head e)
+      step (no ne) (yes m) = yes (List·Memᴰ·tail m)
+      step (no ne) (no nm) = no (λ m. ⊎-elim ne nm (List·Memᴰ·cases-cons m))
+
+  pub mem-found : Discrete A → (a : A) (l : List A) → List·Mem a l → List·Memᴰ a l
+  mem-found d a l m = by-cases (decide-mem d a l) (λ y. y) (λ n. absurd (∥∥₁-elim m ⊥-prop n))
+
+  pub no-mem : {a : A} {l : List A} → (List·Memᴰ a l → ⊥) → ¬ List·Mem a l
+  no-mem f m = ∥∥₁-elim m ⊥-prop f
+
+  -- keep
+
+  pub keep-is : (f : A → Bool) (l : List A) {a : A} → List·Memᴰ a (keep f l) → List·Memᴰ a l × (f a ≡ true)
+  unfolding keep
+  keep-is f [] m = absurd (List·Memᴰ·not-nil m)
+  keep-is f (x ∷ xs) {a} m =
+      by-bool
+      (f x)
+      (λ y.
+      ⊎-elim
+      {C = List·Memᴰ a (x ∷ xs) × (f a ≡ true)}
+      (λ e. (List·Memᴰ·head e, ap f e ∙ y))
+      (λ m′. let (n, z) = keep-is f xs m′ in (List·Memᴰ·tail n, z))
+      (List·Memᴰ·cases-cons (rw y at m)))
+      (λ z. let (n, w) = keep-is f xs (rw z at m) in (List·Memᴰ·tail n, w))
+
+  pub keep-mem : (f : A → Bool) (l : List A) {a : A} → List·Memᴰ a l → f a ≡ true → List·Memᴰ a (keep f l)
+  unfolding keep
+  keep-mem f [] m e = absurd (List·Memᴰ·not-nil m)
+  keep-mem f (x ∷ xs) {a} m e =
+      let rest : List·Memᴰ a xs → List·Memᴰ a (keep f xs) = λ m′. keep-mem f xs m′ e in
+      by-bool
+      (f x)
+      (λ y. rw y (⊎-elim (λ q. List·Memᴰ·head q) (λ m′. List·Memᴰ·tail (rest m′)) (List·Memᴰ·cases-cons m)))
+      (λ z. rw z (⊎-elim (λ q. true-not-false (sym (ap f q) ∙ e) z) rest (List·Memᴰ·cases-cons m)))
+
+  pub keep-nodup : (f : A → Bool) (l : List A) → List·Nodup l → List·Nodup (keep f l)
+  unfolding keep
+  keep-nodup f [] n = nodup-nil
+  keep-nodup f (x ∷ xs) n =
+      let (fresh, rest) = nodup-cons .0 n in
+      by-bool
+      (f x)
+      (λ y. rw y (nodup-cons .1 (no-mem (λ m. fresh ∣ (keep-is f xs m) .0 ∣₁), keep-nodup f xs rest)))
+      (λ z. rw z (keep-nodup f xs rest))
+
+  -- gather
+
+  pub gather-is : (n : ℕ) (f : ℕ → List A) {a : A} → List·Memᴰ a (gather n f) → (i : ℕ) × (i < n) × List·Memᴰ a (f i)
+  unfolding gather
+  gather-is zero f m = absurd (List·Memᴰ·not-nil m)
+  gather-is (suc n) f {a} m =
+      ⊎-elim
+      {C = (i : ℕ) × (i < suc n) × List·Memᴰ a (f i)}
+      (λ m′. let (i, l, x) = gather-is n f m′ in (i, omega arith, x))
+      (λ m′. (n, omega arith, m′))
+      (List·Memᴰ·append-cases (gather n f) m)
+
+  pub gather-mem : (n : ℕ) (f : ℕ → List A) (i : ℕ) {a : A} → i < n → List·Memᴰ a (f i) → List·Memᴰ a (gather n f)
+  unfolding gather
+  gather-mem zero f i l m = absurd (not-suc-le-zero l)
+  gather-mem (suc n) f i l m =
+      by-cases
+      (ℕ-discrete i n)
+      (λ q. Memᴰ·append-right (gather n f) (rw q at m))
+      (λ ne. Memᴰ·append-left (f n) (gather-mem n f i (omega arith) m))
+
+  pub gather-nodup : (n : ℕ) (f : ℕ → List A)
+      → ((i : ℕ) → i < n → List·Nodup (f i))
+      → ((i j : ℕ) (a : A) → List·Memᴰ a (f i) → List·Memᴰ a (f j) → i ≡ j)
+      → List·Nodup (gather n f)
+  unfolding gather
+  gather-nodup zero f each apart = nodup-nil
+  gather-nodup (suc n) f each apart =
+      nodup-append .1 (
+        gather-nodup n f (λ i l. each i (omega arith)) apart,
+        each n (omega arith),
+        λ a m m′.
+            ∥∥₁-elim m ⊥-prop
+            (λ x. ∥∥₁-elim m′ ⊥-prop
+            (λ y. let (i, l, z) = gather-is n f x in absurd (omega (arith, apart i n a z y)))),
+      )
+
+-- ---- map and gather
+
+map-append {ℓ κ} : {A : Type ℓ} {B : Type κ} (f : A → B) (l m : List A) → map f (l ++ m) ≡ map f l ++ map f m
+map-append f [] m = refl
+map-append f (x ∷ xs) m = ap (f x ∷_) (map-append f xs m)
+
+pub map-gather {ℓ κ} : {A : Type ℓ} {B : Type κ} (f : A → B) (n : ℕ) (g : ℕ → List A)
+    → map f (gather n g) ≡ gather n (λ i. map f (g i))
+unfolding gather
+map-gather f zero g = refl
+map-gather f (suc n) g = map-append f (gather n g) (g n) ∙ ap (_++ map f (g n)) (map-gather f n g)
+
+pub singles-length {ℓ} : {A : Type ℓ} (f : ℕ → A) (n : ℕ) → length (gather n λ i. f i ∷ []) ≡ n
+unfolding gather
+singles-length f zero = refl
+singles-length f (suc n) = length-append (gather n λ i. f i ∷ []) (f n ∷ []) ∙ omega (arith, singles-length f n)
+
+pub singles-at {ℓ} : {A : Type ℓ} (f : ℕ → A) (n i : ℕ) (d : A) → i < n → getD (gather n λ k. f k ∷ []) i d ≡ f i
+unfolding gather
+singles-at f zero i d l = absurd (not-suc-le-zero l)
+singles-at f (suc n) i d l =
+    by-cases
+    (ℕ-discrete i n)
+    (λ q.
+    ap (λ (k : ℕ). getD (gather n (λ x. f x ∷ []) ++ f n ∷ []) k d) (q ∙ sym (singles-length f n))
+    ∙ getD-append-seam (gather n λ x. f x ∷ []) (f n) [] d
+    ∙ ap f (sym q))
+    (λ ne.
+    List·getD-append (gather n λ x. f x ∷ []) (f n ∷ []) d i (omega (arith, singles-length f n))
+    ∙ singles-at f n i d (omega arith))
+
+-- All but one of the parts are empty, or all of them.
+pub gather-none {ℓ} : {A : Type ℓ} (n : ℕ) (f : ℕ → List A) → ((i : ℕ) → i < n → f i ≡ []) → gather n f ≡ []
+unfolding gather
+gather-none zero f h = refl
+gather-none (suc n) f h = ap₂ _++_ (gather-none n f (λ i l. h i (omega arith))) (h n (omega arith))
+
+pub gather-one {ℓ} : {A : Type ℓ} (n : ℕ) (f : ℕ → List A) (k : ℕ) → k < n → ((i : ℕ) → i < n → i ≢ k → f i ≡ [])
+    → gather n f ≡ f k
+unfolding gather
+gather-one zero f k l h = absurd (not-suc-le-zero l)
+gather-one (suc n) f k l h =
+    by-cases
+    (ℕ-discrete n k)
+    (λ e. ap₂ _++_ (gather-none n f (λ i b. h i (omega arith) (λ q. absurd (omega arith)))) (ap f e))
+    (λ ne.
+    ap₂ _++_ (gather-one n f k (omega arith) (λ i b. h i (omega arith))) (h n (omega arith) ne) ∙ append-nil (f k))
+
+pub map-map {ℓ κ μ} : {A : Type ℓ} {B : Type κ} {C : Type μ} (g : B → C) (f : A → B) (l : List A)
+    → map g (map f l) ≡ map (λ x. g (f x)) l
+map-map g f [] = refl
+map-map g f (x ∷ xs) = ap (g (f x) ∷_) (map-map g f xs)
+
+pub mem-some {ℓ} : {A : Type ℓ} {a : A} (l : List A) → List·Memᴰ a l → 1 ≤ length l
+mem-some [] m = absurd (List·Memᴰ·not-nil m)
+mem-some (x ∷ xs) m = omega arith
+
+module _ {ℓ} {A : Type ℓ} where
+  pub gather-perm : (n : ℕ) (f g : ℕ → List A) → ((i : ℕ) → i < n → Perm (f i) (g i)) → Perm (gather n f) (gather n g)
+  unfolding gather
+  gather-perm zero f g each = Perm·refl []
+  gather-perm (suc n) f g each = Perm·append (gather-perm n f g (λ i l. each i (omega arith))) (each n (omega arith))
+
+  -- As many elements as parts, if no part is empty.
+  pub gather-some : (n : ℕ) (f : ℕ → List A) → ((i : ℕ) → i < n → 1 ≤ length (f i)) → n ≤ length (gather n f)
+  unfolding gather
+  gather-some zero f each = omega arith
+  gather-some (suc n) f each =
+      omega (
+        arith,
+        length-append (gather n f) (f n),
+        gather-some n f (λ i l. each i (omega arith)),
+        each n (omega arith),
+      )
+
+-- The front of a row of single elements.
+pub singles-front : (f : ℕ → ℕ) (m n : ℕ) → m ≤ n → take m (gather n λ i. f i ∷ []) ≡ gather m λ i. f i ∷ []
+singles-front f m n le =
+    let long : length (take m (gather n λ i. f i ∷ [])) ≡ m =
+    length-take m (gather n λ i. f i ∷ []) ∙ omega (arith, singles-length f n) in
+    ext-getD
+    0
+    (take m (gather n λ i. f i ∷ []))
+    (gather m λ i. f i ∷ [])
+    (long ∙ sym (singles-length f m))
+    (λ i l.
+    getD-take m (gather n λ i. f i ∷ []) i 0 (omega arith)
+    ∙ singles-at f n i 0 (omega arith)
+    ∙ sym (singles-at f m i 0 (omega arith)))
+
+-- Rows that are equally long fill that many cells each.
+pub cells-length : (k : ℕ) (rows : List (List ℕ)) → ((row : List ℕ) → List·Memᴰ row rows → length row ≡ k)
+    → length (cellsOf rows) ≡ length rows * k
+unfolding cellsOf
+cells-length k [] each = omega arith
+cells-length k (row ∷ rows) each =
+    length-append row (cellsOf rows)
+    ∙ omega (
+      arith,
+      each row (List·Memᴰ·head refl),
+      cells-length k rows (λ r m. each r (List·Memᴰ·tail m)),
+      suc-mul (length rows) k,
+    )
+
+derived-length {ℓ} : {A : Type ℓ} {l m : List A} → List·Permᴰ l m → length l ≡ length m
+derived-length List·Permᴰ·nil = refl
+derived-length (List·Permᴰ·cons e d) = ap suc (derived-length d)
+derived-length (List·Permᴰ·swap e e′) = refl
+derived-length (List·Permᴰ·trans d d′) = derived-length d ∙ derived-length d′
+
+pub perm-length {ℓ} : {A : Type ℓ} (l m : List A) → Perm l m → length l ≡ length m
+perm-length l m d = ∥∥₁-elim d (ℕ-set (length l) (length m)) derived-length

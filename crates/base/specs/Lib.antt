@@ -1,0 +1,3 @@
+-- What every layer counts, sums and lists by.
+pub mod Below
+pub mod Lists

@@ -1,0 +1,24 @@
+-- Lists made from tests and from numbers, and the cells of rows.
+use Prim.Native.Nat.{ℕ, zero, suc}
+use mathlib.Core.Bool.{Bool, true, cond, _&&_}
+use mathlib.Core.List.{List, [], _∷_, _++_}
+
+-- Every element passes.
+abbrev pub every {ℓ} : {A : Type ℓ} → (A → Bool) → List A → Bool
+every f [] = true
+every f (x ∷ xs) = f x && every f xs
+
+-- The elements that pass, in their order.
+unfoldable pub keep {ℓ} : {A : Type ℓ} → (A → Bool) → List A → List A
+keep f [] = []
+keep f (x ∷ xs) = cond (f x) (x ∷ keep f xs) (keep f xs)
+
+-- f 0 ++ f 1 ++ .. ++ f (n - 1)
+unfoldable pub gather {ℓ} : {A : Type ℓ} → ℕ → (ℕ → List A) → List A
+gather zero f = []
+gather (suc n) f = gather n f ++ f n
+
+-- Rows laid one after another.
+unfoldable pub cellsOf : List (List ℕ) → List ℕ
+cellsOf [] = []
+cellsOf (row ∷ rows) = row ++ cellsOf rows

@@ -1,0 +1,192 @@
+// Earliest starts, the next contested tick, and the choices on it.
+use network::NEAR;
+use network::NEXT;
+use network::PACKING;
+use network::PREDS;
+use network::Table;
+use network::duration_of;
+use network::resource_of;
+use plan::MOST_RESOURCES;
+use sets::WIDTH;
+use sets::after_lowest;
+use sets::lowest;
+ghost use mathlib.Core.Path.{_≡_};
+ghost use Prim.Native.Nat.{_^_, _<_, _/_, _+_, max, min, _*_};
+ghost use Rattle.sets.specs.Sets.{most, has};
+ghost use Rattle.sets.specs.Lowest.{afterLowest};
+ghost use Rattle.network.specs.Network.{Linked};
+ghost use Rattle.candidates.specs.Work.{latestOf, soonAt, finishAt, keyAt, leastAt, choiceAt, Timed, Released};
+ghost use Rattle.candidates.specs.Work.{Opened, Contests};
+ghost use Rattle.plan.specs.Limits.{packing};
+
+// More than any end, and more than any key.
+pub const NEVER: u32 = 4294967295;
+
+// The working array has the end of each frozen activity, then when the predecessors of each candidate have ended,
+// then the last frozen end on each resource.
+pub const READY: usize = WIDTH;
+
+pub const FREE: usize = 2 * WIDTH;
+
+pub const WORK_CELLS: usize = FREE + MOST_RESOURCES as usize;
+
+pub type Work = [u32; WORK_CELLS];
+
+pub fn later(a: u32, b: u32) -> u32
+    ensures { λ r. ⌜ r ≡ max a b ⌝ }
+{
+    if a < b { b } else { a }
+}
+
+fn smaller(a: u32, b: u32) -> u32
+    ensures { λ r. ⌜ r ≡ min a b ⌝ }
+{
+    if b < a { b } else { a }
+}
+
+// The latest end in a set of activities, 0 where there is none.
+fn latest(work: &Work, set: u32) -> u32
+    requires { ⌜ set < 2 ^ most ⌝ }
+    ensures { λ r. ⌜ r ≡ latestOf (now (work .entry)) set ⌝ }
+{
+    let mut last = 0;
+    let mut rest = set;
+    while rest != 0 {
+        let i = lowest(rest);
+        last = later(last, work[i]);
+        rest = after_lowest(rest);
+    }
+    last
+}
+
+// The earliest start of a candidate.
+pub fn earliest_start(table: &Table, work: &Work, i: usize) -> u32
+    requires { ⌜ i < most ⌝ }
+    ensures { λ r. ⌜ r ≡ soonAt (now (table .entry)) (now (work .entry)) i ⌝ }
+{
+    let r = resource_of(table[i]);
+    later(work[READY + i], work[FREE + r])
+}
+
+// The end of a candidate that starts as soon as it can.
+pub fn earliest_end(table: &Table, work: &Work, i: usize) -> u32
+    requires { ⌜ (i < most) × Timed (now table) (now work) ⌝ }
+    ensures { λ r. ⌜ r ≡ finishAt (now (table .entry)) (now (work .entry)) i ⌝ }
+{
+    earliest_start(table, work, i) + duration_of(table[i])
+}
+
+// The tick on which candidate i ends and its resource as one number.
+fn key_of(table: &Table, work: &Work, i: usize) -> u32
+    requires { ⌜ (i < most) × Timed (now table) (now work) ⌝ }
+    ensures { λ r. ⌜ r ≡ keyAt (now (table .entry)) (now (work .entry)) i ⌝ }
+{
+    PACKING * earliest_start(table, work, i) + table[i]
+}
+
+// The least key of the candidates: the next contested tick, and the lowest resource contested on it.
+pub fn least_key(table: &Table, work: &Work, cands: u32) -> u32
+    requires { ⌜ (cands < 2 ^ most) × Timed (now table) (now work) ⌝ }
+    ensures { λ r. ⌜ r ≡ leastAt (now (table .entry)) (now (work .entry)) cands ⌝ }
+{
+    let mut least = NEVER;
+    let mut rest = cands;
+    while rest != 0 {
+        let i = lowest(rest);
+        least = smaller(least, key_of(table, work, i));
+        rest = after_lowest(rest);
+    }
+    least
+}
+
+// The tick of a key.
+fn tick_of(key: u32) -> u32
+    ensures { λ r. ⌜ r ≡ key / packing ⌝ }
+{
+    key / PACKING
+}
+
+// The end of candidate i where it is a choice at the key, or NEVER.
+pub fn choice_end(table: &Table, work: &Work, key: u32, i: usize) -> u32
+    requires { ⌜ (i < most) × Timed (now table) (now work) ⌝ }
+    ensures { λ r. ⌜ r ≡ choiceAt (now (table .entry)) (now (work .entry)) key i ⌝ }
+{
+    let w = table[i];
+    if resource_of(w) != resource_of(key) {
+        return NEVER;
+    }
+    let start = earliest_start(table, work, i);
+    if tick_of(key) <= start {
+        return NEVER;
+    }
+    start + duration_of(w)
+}
+
+// The candidates once i is frozen, where `left` is what is left; the new ones are made ready.
+pub fn release(table: &Table, work: &mut Work, left: u32, cands: u32, i: usize) -> u32
+    requires { ⌜ (i < most) × (cands < 2 ^ most) × Linked (now table) × Timed (now table) (now work) ⌝ }
+    ensures { λ r. ⌜ Released (now (table .entry)) left cands i (now (work .entry)) (now (work .exit)) r ⌝ }
+{
+    let mut all = cands;
+    let mut rest = table[NEXT + i];
+    while rest != 0 {
+        let j = lowest(rest);
+        rest = after_lowest(rest);
+        if !sets::meets(table[PREDS + j], left) {
+            let from = latest(work, table[NEAR + j]);
+            work[READY + j] = from;
+            all = sets::union(all, sets::single(j));
+        }
+    }
+    all
+}
+
+// How many of a set come after the first on their resource.
+fn rivals(table: &Table, set: u32) -> u32
+    requires { ⌜ set < 2 ^ most ⌝ }
+    ensures { λ r. ⌜ Contests (now (table .entry)) set r ⌝ }
+{
+    let mut many = 0;
+    let mut seen = 0;
+    let mut rest = set;
+    while rest != 0 {
+        let i = lowest(rest);
+        rest = after_lowest(rest);
+        let r = resource_of(table[i]);
+        let again = sets::contains(seen, r);
+        seen = sets::union(seen, sets::single(r));
+        if again {
+            many += 1;
+        }
+    }
+    many
+}
+
+// The same where `known` are known of: they are counted only where none is.
+pub fn contests(table: &Table, set: u32, known: u32) -> u32
+    requires { ⌜ (set < 2 ^ most) × (0 < known → 0 < afterLowest set) ⌝ }
+    ensures { λ r. ⌜ Contests (now (table .entry)) set r ⌝ }
+{
+    if known == 0 {
+        rivals(table, set)
+    } else {
+        known
+    }
+}
+
+// Those of a set that have no predecessor in it.
+pub fn opened(table: &Table, set: u32) -> u32
+    requires { ⌜ set < 2 ^ most ⌝ }
+    ensures { λ r. ⌜ Opened (now (table .entry)) set r ⌝ }
+{
+    let mut all = 0;
+    let mut rest = set;
+    while rest != 0 {
+        let i = lowest(rest);
+        rest = after_lowest(rest);
+        if !sets::meets(table[PREDS + i], set) {
+            all = sets::union(all, sets::single(i));
+        }
+    }
+    all
+}

@@ -1,2 +1,0 @@
--- Loops over the members of a set.
-pub mod Members

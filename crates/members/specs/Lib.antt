@@ -1,2 +1,0 @@
--- What the contracts on a set's members say.
-pub mod Lowest

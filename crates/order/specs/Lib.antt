@@ -1,3 +1,0 @@
--- What the order of a plan's nodes says.
-pub mod Order
-pub mod Walk

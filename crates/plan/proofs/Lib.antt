@@ -1,0 +1,2 @@
+-- The node that a letter and a number name.
+pub mod Nodes

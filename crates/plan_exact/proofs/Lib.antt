@@ -1,0 +1,8 @@
+-- From the search of each variant to the plan as a whole.
+pub mod Variant
+pub mod Found
+pub mod Pairs
+pub mod Rows
+pub mod Shortest
+pub mod Meaning
+pub mod Answers

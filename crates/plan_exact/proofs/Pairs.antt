@@ -1,0 +1,126 @@
+-- The pairs of a valid plan: each is a variant and a session of it, to which CHECK says yes.
+use Prim.Native.Nat.{ℕ, _-_, _≤_, _<_}
+use native.Mathlib.Decide.{decLt}
+use native.Mathlib.Omega.{arith}
+use mathlib.Core.Bool.{true, false, not, Bool·beq}
+use mathlib.Core.Logic.{by-cases}
+use mathlib.Core.Path.{_≡_, sym, ap, _∙_, subst}
+use mathlib.Core.List.{List, _∷_, _++_, map, List·Memᴰ, Memᴰ·map, Memᴰ·of-map, head-eq-of-cons-eq, tail-eq-of-cons-eq}
+use lib.Dec.{eqb}
+use lib.ListN.{length, take, replicate, getD-replicate, List·getD-append}
+use lib.Seq.{getD-append-add}
+use borrow.Author.Tests.{eq-eqb, ne-eqb}
+use Rattle.plan.specs.Plan.{Plan}
+use Rattle.term.specs.Term.{Term}
+use Rattle.term.specs.Variants.{variantCount, activities, member}
+use Rattle.timetable.specs.Mark.{mark, places}
+use Rattle.schedule.specs.Project.{Project}
+use Rattle.schedule.specs.Sessions.{startsOf, sessions}
+use Rattle.base.proofs.Bools.{by-bool, both}
+use Rattle.base.proofs.Below.{every-of}
+use Rattle.schedule.proofs.Load.{Has}
+use Rattle.schedule.proofs.Reflect.{feasible-of}
+use Rattle.schedule.proofs.Agree.{Feasible-agree}
+use Rattle.base.proofs.Lists.{gather-is, gather-mem}
+use Rattle.schedule.proofs.Box.{SessionRow, session-is, session-unmarked}
+use Rattle.variant.specs.Project.{variantAt, projectOf}
+use Rattle.term.specs.Valid.{HasVariant, Valid}
+use Rattle.variant.proofs.RoundTrip.{variant-below}
+use Rattle.variant.proofs.Instance.{has-of, has-below}
+use Rattle.variant.specs.Pairs.{pairs}
+use Rattle.variant.specs.Timetable.{timetableOf, isMarked, isSession}
+use Rattle.answers.specs.Shortest.{Shortest}
+use Rattle.plan_exact.proofs.Variant.{chosen, box-unmarked}
+
+-- A variant of the plan and a session of it.
+pub record Pair (p : Plan) (t : Term) (v : ℕ) (ss : List ℕ) : Type 0 where
+  pub below : v < variantCount t
+  pub session : List·Memᴰ ss (sessions (projectOf p (variantAt t v)) mark)
+
+pub pair-is : (p : Plan) (t : Term) (v : ℕ) (ss : List ℕ) → List·Memᴰ (v ∷ ss) (pairs p t) → Pair p t v ss
+unfolding pairs
+pair-is p t v ss m =
+    let (u, l, k) = gather-is (variantCount t) (λ u. map (u ∷_) (sessions (projectOf p (variantAt t u)) mark)) m in
+    let (rest, n, e) = Memᴰ·of-map (u ∷_) (sessions (projectOf p (variantAt t u)) mark) k in
+    subst (λ (x : ℕ). Pair p t x ss) (head-eq-of-cons-eq e)
+    (subst (Pair p t u) (tail-eq-of-cons-eq e) (record { below = l; session = n }))
+
+pub pair-mem : (p : Plan) (t : Term) (v : ℕ) (ss : List ℕ) → Pair p t v ss → List·Memᴰ (v ∷ ss) (pairs p t)
+unfolding pairs
+pair-mem p t v ss pair =
+    gather-mem (variantCount t) (λ u. map (u ∷_) (sessions (projectOf p (variantAt t u)) mark)) v (pair .below)
+    (Memᴰ·map (v ∷_) (pair .session))
+
+module _ (p : Plan) (t : Term) (v : ℕ) (c : HasVariant p t v) (ss : List ℕ)
+    (m : List·Memᴰ ss (sessions (projectOf p (variantAt t v)) mark)) where
+  abbrev w : Term
+  w = variantAt t v
+
+  abbrev P : Project
+  P = projectOf p w
+
+  abbrev N : ℕ
+  N = length (p .activities)
+
+  is : SessionRow P mark ss
+  is = session-is P mark ss m
+
+  long : length ss ≡ N
+  unfolding projectOf
+  long = is .long
+
+  front : (i : ℕ) → i < N → startsOf (timetableOf p ss) i ≡ startsOf ss i
+  front i l = List·getD-append ss (replicate (places - N) mark) 0 i (omega (arith, long))
+
+  behind : (i : ℕ) → N ≤ i → i < places → startsOf (timetableOf p ss) i ≡ mark
+  behind i g l =
+      let k : ℕ = i - N in
+      let marks : List ℕ = replicate (places - N) mark in
+      ap (startsOf (ss ++ marks)) (omega (arith, long))
+      ∙ getD-append-add ss marks k 0
+      ∙ getD-replicate (places - N) k mark 0 (omega arith)
+
+  -- The mark exactly at the absent activities.
+  there : (i : ℕ) → member i (activities w) ≡ true → eqb (startsOf (timetableOf p ss) i) mark ≡ false
+  there i y =
+      let l : i < N = variant-below p t v c i y in
+      let h : Has P i = has-of p w i l y in
+      ne-eqb (startsOf (timetableOf p ss) i) mark
+      (omega (arith, front i l, session-unmarked P mark ss m (box-unmarked p w (c .valid .ranges)) i h))
+
+  away : (i : ℕ) → i < places → member i (activities w) ≡ false → eqb (startsOf (timetableOf p ss) i) mark ≡ true
+  away i l z =
+      eq-eqb (startsOf (timetableOf p ss) i) mark
+      (by-cases
+      (decLt i N)
+      (λ b. front i b ∙ is .marked i (unfold projectOf in b) (unfold projectOf in z))
+      (λ g. behind i (omega arith) l))
+
+  pub session-timetable : isSession p w (timetableOf p ss) ≡ true
+  unfolding isSession isMarked
+  session-timetable =
+      both
+      (every-of places (λ i. Bool·beq (eqb (startsOf (timetableOf p ss) i) mark) (not (member i (activities w))))
+      (λ i l.
+      by-bool
+      (member i (activities w))
+      (λ y. rw (y, there i y))
+      (λ z. rw (z, away i l z))))
+      (feasible-of P (startsOf (timetableOf p ss))
+      (Feasible-agree P (startsOf ss) (startsOf (timetableOf p ss))
+      (λ i h. sym (front i (has-below p w i h)))
+      (is .is-active .is-feasible)))
+
+-- CHECK says yes to every row of COUNT's pairs,
+pub pair-checks : (p : Plan) (t : Term) → Valid p t → (v : ℕ) (ss : List ℕ) → List·Memᴰ (v ∷ ss) (pairs p t)
+    → isSession p (variantAt t v) (timetableOf p ss) ≡ true
+pair-checks p t valid v ss m =
+    let pair : Pair p t v ss = pair-is p t v ss m in
+    session-timetable p t v (chosen p t v valid (pair .below)) ss (pair .session)
+
+-- and to a shortest session.
+pub shortest-checks : (p : Plan) (t : Term) → Valid p t → (v span : ℕ) (ss : List ℕ) → Shortest p t v span ss
+    → isSession p (variantAt t v) ss ≡ true
+shortest-checks p t valid v span ss s =
+    subst (λ (x : List ℕ). isSession p (variantAt t v) x ≡ true) (sym (s .marked))
+    (pair-checks p t valid v (take (length (p .activities)) ss) (s .one-of))

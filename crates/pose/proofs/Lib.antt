@@ -1,2 +1,0 @@
--- One variant of an accepted plan: laws free of the code.
-pub mod Posing

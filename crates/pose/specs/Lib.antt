@@ -1,2 +1,0 @@
--- What one variant of an accepted plan is posed from.
-pub mod Posable

@@ -1,0 +1,3 @@
+-- The order of a term.
+pub mod Order
+pub mod Walk

@@ -1,0 +1,2 @@
+-- The search's model.
+pub mod Model

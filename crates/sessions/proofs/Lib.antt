@@ -1,2 +1,0 @@
--- What the tests of sessions mean.
-pub mod Words

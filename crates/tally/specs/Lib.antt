@@ -1,0 +1,2 @@
+-- What is kept after all schedules of all variants.
+pub mod Entries

@@ -1,0 +1,142 @@
+-- What is proved of the calls: one theorem for each demand, as the mission words it. Each speaks of the contracts of
+-- the calls, which every function of the program is proved to meet.
+use Prim.Native.Nat.{ℕ, _≤_, _<_}
+use native.Mathlib.Decide.{decLe}
+use native.Mathlib.Omega.{arith}
+use mathlib.Core.Bool.{true}
+use mathlib.Core.List.{List, _∷_, List·Memᴰ}
+use mathlib.Core.Logic.{_↔_, by-cases}
+use mathlib.Core.Path.{_≡_, sym, ap, _∙_, subst}
+use mathlib.Core.Option.{some}
+use lib.ListN.{length, take}
+use Rattle.base.specs.Lists.{every}
+use Rattle.plan.specs.Limits.{longest}
+use Rattle.plan.specs.Plan.{Plan, Node, isNode}
+use Rattle.plan.specs.declared.Refusal.{Refusal}
+use Rattle.plan.specs.declared.Refusal.the-variants.{OverCap}
+use Rattle.format.specs.Text.{text}
+use Rattle.format.proofs.Longest.{longestPlan}
+use Rattle.term.specs.Term.{Term, termOf}
+use Rattle.term.specs.Valid.{Valid}
+use Rattle.term.specs.Variants.{variants, activities, twice}
+use Rattle.term.specs.Clash.{clash, Repeats}
+use Rattle.term.specs.Reduced.{Reduced}
+use Rattle.term.proofs.Reading.{full-termOf}
+use Rattle.term.proofs.Reduced.{variants-reduced}
+use Rattle.term.proofs.Twice.{twice-clash, twice-means}
+use Rattle.variant.specs.Pairs.{pairs, pairCount}
+use Rattle.variant.specs.Project.{variantAt}
+use Rattle.variant.specs.Timetable.{isSession, timetableOf}
+use Rattle.judge.specs.Judge.{Verdict, accepts, judge}
+use Rattle.judge.proofs.Accepts.{accepted-valid, valid-accepted, accepted-short, longestTerm, longest-accepted}
+use Rattle.write.specs.Answer.{writeOf}
+use Rattle.write.specs.RoundTrip.{RoundTrip}
+use Rattle.write.specs.declared.WriteAnswer.the-variants.{Written}
+use Rattle.write.proofs.RoundTrip.{round-trip}
+use Rattle.inspect.specs.Answer.{checkOf}
+use Rattle.inspect.specs.Words.{SessionOf}
+use Rattle.inspect.specs.declared.CheckAnswer.the-variants.{Checked}
+use Rattle.inspect.proofs.Meaning.{check-yes}
+use Rattle.answers.specs.Listed.{ListOf}
+use Rattle.answers.specs.Shortest.{BestBy, BestOf}
+use Rattle.answers.specs.Words.{ListingOf}
+use Rattle.answers.specs.declared.Best.{Best}
+use Rattle.answers.specs.declared.BestAnswer.the-variants.{Found, Refused}
+use Rattle.answers.specs.declared.ListAnswer.the-variants.{Listed}
+use Rattle.plan_exact.proofs.Meaning.{list-listing}
+use Rattle.plan_exact.proofs.Pairs.{pair-checks}
+use Rattle.theorems.specs.TurnedBack.{TurnedBack, Untouched}
+use Rattle.theorems.specs.Shortest.{ActiveSessions, ShortestSession}
+use Rattle.theorems.proofs.Refused.{unfit-turned-back, untouched}
+use Rattle.theorems.proofs.Shortest.{active-count, over, within}
+
+-- 1. "Memory lent to it, of any length and content, is read within its ends and written only where the call names it;
+-- every call finishes; an unfit plan is refused by a fixed number; a refusal leaves the lent area as it stood."
+--
+-- That memory is read within its ends and that every call finishes is proved of each function by itself, and no call
+-- asks anything of its caller; what is written is what the contracts name. A file that is the text of no valid plan
+-- is turned back by every call with the same number and figure, and no refusal of any kind changes what was lent.
+pub demand-1 : (s : List ℕ)
+    → (((p : Plan) (t : Term) → Valid p t → s ≡ text p → ⊥) → (r : Refusal) × TurnedBack s r)
+    × Untouched s
+demand-1 s = (unfit-turned-back s, untouched s)
+
+-- 2. "An accepted plan has the variants of document 000, and the listing holds exactly the active schedules of its
+-- Definition 2, each once per variant. A variant written out reads back as that variant."
+--
+-- The variants are the reduced terms of document 000; what LIST leaves in the area when it answers n rows is that
+-- listing; and the bytes that WRITE leaves are accepted as the variant.
+pub demand-2 : (s : List ℕ) (p : Plan) (t : Term) → judge s ≡ accepts p t
+    → ((w : Term) → List·Memᴰ w (variants t) ↔ Reduced t w)
+    × ((cap n : ℕ) (before after : List ℕ) → ListOf s cap before (Listed n) after → ListingOf s n before after)
+    × ((v n : ℕ) (area after : List ℕ) → writeOf s v area ≡ record { answer = Written n; area = after }
+    → RoundTrip s v (take n after))
+demand-2 s p t accepted = (
+  variants-reduced t,
+  λ cap n before after. list-listing s cap n before after,
+  λ v n area after. round-trip s v area n after,
+)
+
+-- 3. "For every accepted plan and every cap, the planner asked for a shortest session stops without one exactly if
+-- the variants together have more active sessions than the cap. Otherwise the session handed back is feasible for the
+-- variant named with it, the makespan and the count are its own makespan and the number of those active sessions; any
+-- feasible session S of any variant, starts being any whole ticks from 0, has at least that makespan, and the two are
+-- equal exactly when no feasible session of any variant is shorter than S."
+pub demand-3 : (s : List ℕ) (p : Plan) (t : Term) → judge s ≡ accepts p t
+    → (n : ℕ) → ActiveSessions p t n
+    → (cap : ℕ) (best : Best) → BestOf s cap best
+    → ((best .answer ≡ Refused OverCap) ↔ (cap < n))
+    ×
+    (n ≤ cap → (v span : ℕ) × (best .answer ≡ Found v span n) × ShortestSession p t v span (best .timetable .starts))
+unfolding BestOf
+demand-3 s p t accepted n active cap best contract =
+    let valid : Valid p t = accepted-valid s p t accepted .0 in
+    let says : BestBy (accepts p t) cap best = subst (λ (o : Verdict). BestBy o cap best) accepted contract in
+    let count : n ≡ pairCount p t = active-count p t valid n active in
+    let found = within p t valid cap best says in (
+      (
+        λ refused.
+            by-cases
+            (decLe n cap)
+            (λ l. let (v, span, answer, _) = found (omega arith) in absurd (never (sym answer ∙ refused)))
+            (λ g. omega arith),
+        λ l. over p t valid cap best says (omega arith),
+      ),
+      λ l.
+          let (v, span, answer, shortest) = found (omega arith) in
+          (v, span, answer ∙ ap (Found v span) (sym count), shortest),
+    )
+  where
+    never : {v span m : ℕ} → Found v span m ≡ Refused OverCap → ⊥
+    never e = let z : _≡_ {A = ℕ} 0 1 = cc in omega arith
+
+-- Which files are accepted: exactly the texts of valid plans.
+pub accepted-texts : (s : List ℕ) (p : Plan) (t : Term) → (judge s ≡ accepts p t) ↔ (Valid p t × (s ≡ text p))
+accepted-texts s p t = (
+  accepted-valid s p t,
+  λ h. subst (λ (x : List ℕ). judge x ≡ accepts p t) (sym (h .1)) (valid-accepted p t (h .0)),
+)
+
+-- CHECK says yes exactly to a timetable that is a feasible session of the variant.
+pub check-sessions : (s : List ℕ) (v : ℕ) (timetable : List ℕ)
+    → (checkOf s v timetable ≡ Checked true) ↔ SessionOf s v timetable
+check-sessions = check-yes
+
+-- It says yes to every session that is listed.
+pub listed-sessions : (p : Plan) (t : Term) → Valid p t → (v : ℕ) (starts : List ℕ)
+    → List·Memᴰ (v ∷ starts) (pairs p t)
+    → isSession p (variantAt t v) (timetableOf p starts) ≡ true
+listed-sessions = pair-checks
+
+-- No accepted file is longer than 959 bytes, and one is as long.
+pub longest-file : ((s : List ℕ) (p : Plan) (t : Term) → judge s ≡ accepts p t → length s ≤ longest)
+    × ((s : List ℕ) × (p : Plan) × (t : Term) × (judge s ≡ accepts p t) × (length s ≡ longest))
+longest-file =
+    (accepted-short, (text longestPlan, longestPlan, longestTerm, longest-accepted .0, longest-accepted .1))
+
+-- "Twice" says that some variant has an activity at two places, which is so exactly if two of its nodes meet first at
+-- an s or p.
+pub twice-rule : (ns : List Node) (n : ℕ) (t : Term) → every (isNode n) ns ≡ true → termOf ns ≡ some t
+    → ((twice t ≡ true) ↔ ((w : Term) × List·Memᴰ w (variants t) × Repeats (activities w)))
+    × (twice t ≡ clash t)
+twice-rule ns n t ranged reads = (twice-means t, twice-clash t (full-termOf ns n t ranged reads))

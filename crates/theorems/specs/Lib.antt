@@ -1,0 +1,3 @@
+-- The words in which the theorems are said.
+pub mod TurnedBack
+pub mod Shortest

@@ -1,0 +1,40 @@
+-- A shortest session in the words of the mission.
+use Prim.Native.Nat.{ℕ, _≤_, _<_}
+use mathlib.Core.List.{List}
+use mathlib.Core.Logic.{_↔_}
+use mathlib.Core.Path.{_≡_}
+use lib.ListN.{length}
+use Rattle.plan.specs.Plan.{Plan}
+use Rattle.term.specs.Term.{Term}
+use Rattle.term.specs.Variants.{variantCount}
+use Rattle.schedule.specs.Schedule.{Starts}
+use Rattle.schedule.specs.Sessions.{startsOf}
+use Rattle.variant.specs.Project.{variantAt}
+use Rattle.variant.specs.Words.{Keeps, Session}
+use Rattle.answers.specs.Shortest.{makespanIn}
+use Rattle.answers.specs.Words.{Listing}
+
+-- The variants together have n active sessions: the listing of them has n rows.
+pub record ActiveSessions (p : Plan) (t : Term) (n : ℕ) : Type 0 where
+  pub rows : List (List ℕ)
+  pub listing : Listing p t rows
+  pub count : length rows ≡ n
+
+-- S is a feasible session of variant v, starts being any whole ticks from 0.
+pub record SessionOfVariant (p : Plan) (t : Term) (v : ℕ) (S : Starts) : Type 0 where
+  pub below : v < variantCount t
+  pub keeps : Keeps p (variantAt t v) S
+
+-- No feasible session of any variant is shorter than S of v.
+abbrev pub Unbeaten : Plan → Term → ℕ → Starts → Type 0
+Unbeaten p t v S = (u : ℕ) (R : Starts) → SessionOfVariant p t u R → makespanIn p t u R < makespanIn p t v S → ⊥
+
+-- The timetable is a feasible session of variant v, `span` is its own makespan, and any feasible session S of any
+-- variant has at least that makespan, the two being equal exactly when no feasible session of any variant is shorter
+-- than S.
+pub record ShortestSession (p : Plan) (t : Term) (v span : ℕ) (timetable : List ℕ) : Type 0 where
+  pub below : v < variantCount t
+  pub session : Session p (variantAt t v) timetable
+  pub own : span ≡ makespanIn p t v (startsOf timetable)
+  pub least : (u : ℕ) (S : Starts) → SessionOfVariant p t u S → span ≤ makespanIn p t u S
+  pub exactly : (u : ℕ) (S : Starts) → SessionOfVariant p t u S → (makespanIn p t u S ≡ span) ↔ Unbeaten p t u S

@@ -1,0 +1,47 @@
+-- Sessions in the words of the paper, with no tests. p is a plan and w the chosen term of a variant.
+use Prim.Native.Nat.{ℕ, _+_, _≤_, _<_}
+use mathlib.Core.Bool.{true, false}
+use mathlib.Core.List.{List}
+use mathlib.Core.Logic.{_≢_, _↔_, _⊎_}
+use mathlib.Core.Path.{_≡_}
+use lib.ListN.{length}
+use Rattle.plan.specs.Plan.{Plan}
+use Rattle.term.specs.Term.{Term}
+use Rattle.term.specs.Variants.{activities, member}
+use Rattle.schedule.specs.Schedule.{Starts, moved}
+use Rattle.schedule.specs.Sessions.{startsOf}
+use Rattle.variant.specs.Precedence.{precedes}
+use Rattle.variant.specs.Project.{activityAt}
+use Rattle.timetable.specs.Mark.{mark, places}
+
+-- Activity i is one of the variant's.
+abbrev pub Present : Term → ℕ → Type 0
+Present w i = member i (activities w) ≡ true
+
+-- An end is start plus duration.
+abbrev pub endIn : Plan → Starts → ℕ → ℕ
+endIn p S i = S i + activityAt p i .duration
+
+-- Each activity starts no earlier than the end of all that precede it, and two on one resource do not overlap.
+pub record Keeps (p : Plan) (w : Term) (S : Starts) : Type 0 where
+  pub after : (i j : ℕ) → Present w i → Present w j → precedes w i j ≡ true → endIn p S i ≤ S j
+  pub apart :
+      (i j : ℕ) → Present w i → Present w j → i ≢ j → activityAt p i .resource ≡ activityAt p j .resource
+      → (endIn p S i ≤ S j) ⊎ (endIn p S j ≤ S i)
+
+-- Of the first n activities, exactly the absent ones have the mark.
+abbrev pub MarksAbsent : Term → ℕ → List ℕ → Type 0
+MarksAbsent w n row = (i : ℕ) → i < n → (startsOf row i ≡ mark) ↔ (member i (activities w) ≡ false)
+
+-- A timetable that is a feasible session.
+pub record Session (p : Plan) (w : Term) (row : List ℕ) : Type 0 where
+  pub marks : MarksAbsent w places row
+  pub keeps : Keeps p w (startsOf row)
+
+-- The starts of the plan's activities in an active session: it is feasible, and no single start can be made smaller,
+-- the others unchanged, so that it remains feasible.
+pub record ActiveSession (p : Plan) (w : Term) (row : List ℕ) : Type 0 where
+  pub long : length row ≡ length (p .activities)
+  pub marks : MarksAbsent w (length (p .activities)) row
+  pub keeps : Keeps p w (startsOf row)
+  pub least : (j t : ℕ) → Present w j → t < startsOf row j → Keeps p w (moved (startsOf row) j t) → ⊥
