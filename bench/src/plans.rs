@@ -109,7 +109,9 @@ pub fn by_sessions() -> Vec<Plan> {
 pub fn by_activities() -> Vec<Plan> {
     let with_tail = |tail: usize| {
         let (mut activities, mut nodes) = side_by_side(&[8]);
-        nodes = format!("s,{} {nodes}", tail + 1);
+        if tail > 0 {
+            nodes = format!("s,{} {nodes}", tail + 1);
+        }
         for i in 8..8 + tail {
             activities.push((1 + i % 3, duration(i)));
             nodes += &format!(" a,{i}");

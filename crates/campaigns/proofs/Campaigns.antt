@@ -6,7 +6,7 @@ use mathlib.Core.Path.{_≡_, refl, sym, ap, subst, _∙_}
 use lib.ListN.{length, drop}
 use Rattle.base.specs.Lists.{every, gather}
 use Rattle.base.proofs.Bools.{and-left, and-right}
-use Rattle.format.specs.Parse.{parse, planLines, aLine, theLines, theEnd}
+use Rattle.format.specs.Parse.{parse, planLines, aLine, tested, theLines, theEnd}
 use Rattle.format.specs.Lines.{matched, digits, isValue, decimal, filled}
 use Rattle.term.specs.Term.{termOf, forest, place, size, firsts, others, nodes}
 use Rattle.term.specs.Variants.{activities, member, some-of, twice, repeats, variants, paired, variantCount}
@@ -74,8 +74,8 @@ test-holds (stops s cap r) e =
     λ best given. subst (λ x. AnswersAs x best) (shown-same (bestModel s cap) _ e) (best-is s cap best given)
 
 all-pass : every test table ≡ true
-unfolding table readBy variantsBy parse planLines aLine theLines theEnd matched digits isValue decimal termOf forest
-    place size firsts others activities member some-of count clash share writeOf checkOf judge twice repeats
+unfolding table readBy variantsBy parse planLines aLine tested theLines theEnd matched digits isValue decimal termOf
+    forest place size firsts others activities member some-of count clash share writeOf checkOf judge twice repeats
     variants paired variantCount written variantPlan dissolved joined text actLines nodeLines filled Lines.numeral
     nodes isSession isMarked feasible placed inOrder withinCapacity load latestEnd everyBelow sumBelow maxBelow
     projectOf precedes countModel listModel spansModel hasModel bestModel shortestSpan shortestVariants total

@@ -1,5 +1,5 @@
 -- Tests that two answers are the same.
-use Prim.Native.Nat.{ℕ}
+use Prim.Native.Nat.{ℕ, _-_}
 use mathlib.Core.Bool.{Bool, true, false, false≢true, Bool·beq, _&&_}
 use mathlib.Core.List.{List, [], _∷_}
 use mathlib.Core.Logic.{_⊎_, inl, inr}
@@ -7,10 +7,11 @@ use mathlib.Core.Option.{Option, none, some}
 use mathlib.Core.Path.{_≡_, refl, sym, ap, ap₂, _∙_}
 use borrow.Author.Tests.{eqb-true}
 use lib.Dec.{eqb}
+use lib.ListN.{getD}
 use Rattle.plan.specs.Refusals.{numberOf, figureOf}
 use Rattle.plan.specs.declared.Refusal.{Refusal}
-use Rattle.plan.specs.declared.Refusal.the-variants.{Length, Form, Range, NotOneTerm, Twice, TooManyVariants}
-use Rattle.plan.specs.declared.Refusal.the-variants.{NoSuchVariant, OverCap, AreaTooShort}
+use Rattle.plan.specs.declared.Refusal.the-variants.{Length, Form, Range, GroupOfOne, NotOneTerm, Twice}
+use Rattle.plan.specs.declared.Refusal.the-variants.{TooManyVariants, NoSuchVariant, OverCap, AreaTooShort}
 use Rattle.read.specs.declared.ReadAnswer.{ReadAnswer}
 use Rattle.read.specs.declared.ReadAnswer.the-variants.{Read, Refused}
 use Rattle.base.proofs.Bools.{and-left, and-right}
@@ -24,37 +25,21 @@ use Rattle.answers.specs.declared.ListAnswer.the-variants as Listing
 use Rattle.inspect.specs.declared.CheckAnswer.{CheckAnswer}
 use Rattle.inspect.specs.declared.CheckAnswer.the-variants as Check
 
--- The refusal of a number and a figure.
+-- The refusals by their numbers, the first being 1.
 refusalOf : ℕ → ℕ → Refusal
 refusalOf n k =
-    elim (eqb n 1) [
-      | true ↦ Length
-      | false ↦ elim (eqb n 2) [
-        | true ↦ Form k
-        | false ↦ elim (eqb n 3) [
-          | true ↦ Range k
-          | false ↦ elim (eqb n 4) [
-            | true ↦ NotOneTerm
-            | false ↦ elim (eqb n 5) [
-              | true ↦ Twice
-              | false ↦ elim (eqb n 6) [
-                | true ↦ TooManyVariants
-                | false ↦ elim (eqb n 9) [
-                  | true ↦ NoSuchVariant
-                  | false ↦ elim (eqb n 7) [ true ↦ OverCap | false ↦ AreaTooShort k ]
-                ]
-              ]
-            ]
-          ]
-        ]
-      ]
-    ]
+    getD
+    (Length ∷ Form k ∷ Range k ∷ NotOneTerm ∷ Twice ∷ TooManyVariants ∷ OverCap ∷ AreaTooShort k ∷ NoSuchVariant
+    ∷ GroupOfOne k ∷ [])
+    (n - 1)
+    Length
 
 refusal-is : (r : Refusal) → refusalOf (numberOf r) (figureOf r) ≡ r
 unfolding refusalOf
 refusal-is Length = refl
 refusal-is (Form k) = refl
 refusal-is (Range k) = refl
+refusal-is (GroupOfOne k) = refl
 refusal-is NotOneTerm = refl
 refusal-is Twice = refl
 refusal-is TooManyVariants = refl

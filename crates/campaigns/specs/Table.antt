@@ -9,8 +9,8 @@ use mathlib.Core.Path.{_≡_}
 use lib.Dec.{eqb}
 use lib.ListN.{length, drop, replicate}
 use Rattle.plan.specs.declared.Refusal.{Refusal}
-use Rattle.plan.specs.declared.Refusal.the-variants.{Range, Form, Twice, TooManyVariants, NoSuchVariant, OverCap}
-use Rattle.plan.specs.declared.Refusal.the-variants.{AreaTooShort}
+use Rattle.plan.specs.declared.Refusal.the-variants.{Form, Range, GroupOfOne, Twice, TooManyVariants}
+use Rattle.plan.specs.declared.Refusal.the-variants.{NoSuchVariant, OverCap, AreaTooShort}
 use Rattle.plan.specs.Plan.{Plan}
 use Rattle.format.specs.Parse.{parse, holds}
 use Rattle.term.specs.Term.{Term, termOf}
@@ -121,6 +121,9 @@ twiceUnderX = file "plan=1/res=1/acts=1/act=0,1/nodes=3/node=x,2/node=a,0/node=a
 abbrev pub twiceUnderP : List ℕ
 twiceUnderP = file "plan=1/res=1/acts=1/act=0,1/nodes=3/node=p,2/node=a,0/node=a,0"
 
+abbrev pub groupOfOne : List ℕ
+groupOfOne = file "plan=1/res=1/acts=1/act=0,1/nodes=2/node=s,1/node=a,0"
+
 abbrev pub twoContested : List ℕ
 twoContested = file "plan=1/res=2/acts=4/act=0,1/act=0,1/act=1,1/act=1,1/nodes=5/node=p,4/node=a,0/node=a,1/node=a,2/node=a,3"
 
@@ -155,6 +158,20 @@ table =
     ∷ reads (file "plan=1/res=1/acts=1/act=0,2001/nodes=1/node=a,0") (Refused (Range 4))
     ∷ reads (file "plan=1/res=1/acts=1/act=0,0/nodes=1/node=a,0") (Refused (Range 4))
     ∷ reads (file "plan=1/res=1/acts=1/act=0,04/nodes=1/node=a,0") (Refused (Form 4))
+    -- A group of one has its own number, on whichever line it stands, whatever else is wrong with the term. Other
+    -- counts on both sides of their limits; activity 1 is no group.
+    ∷ reads groupOfOne (Refused (GroupOfOne 6))
+    ∷ reads (file "plan=1/res=1/acts=2/act=0,1/act=0,1/nodes=4/node=s,2/node=a,0/node=p,1/node=a,1") (Refused (GroupOfOne 9))
+    ∷ reads (file "plan=1/res=1/acts=2/act=0,1/act=0,1/nodes=4/node=p,2/node=x,1/node=a,0/node=a,1") (Refused (GroupOfOne 8))
+    ∷ reads (file "plan=1/res=1/acts=1/act=0,1/nodes=1/node=x,1") (Refused (GroupOfOne 6))
+    ∷ reads (file "plan=1/res=1/acts=1/act=0,1/nodes=2/node=s,0/node=a,0") (Refused (Range 6))
+    ∷ reads (file "plan=1/res=1/acts=1/act=0,1/nodes=2/node=p,64/node=a,0") (Refused (Range 6))
+    ∷ reads (file "plan=1/res=1/acts=2/act=0,1/act=0,1/nodes=1/node=a,1") (Read 2 1 1)
+    -- An earlier line goes first, whatever its number.
+    ∷ reads (file "plan=1/res=1/acts=1/act=0,1/nodes=02/node=s,1/node=a,0") (Refused (Form 5))
+    ∷ reads (file "plan=1/res=1/acts=1/act=0,1/nodes=3/node=b,2/node=s,1/node=a,0") (Refused (Form 6))
+    ∷ reads (file "plan=1/res=1/acts=1/act=0,1/nodes=3/node=s,64/node=s,1/node=a,0") (Refused (Range 6))
+    ∷ reads (file "plan=1/res=1/acts=1/act=0,1/nodes=3/node=s,1/node=s,64/node=b,0") (Refused (GroupOfOne 6))
     -- Activity 0 twice, under an x and under a p.
     ∷ reads twiceUnderX (Read 1 3 2)
     ∷ reads twiceUnderP (Refused Twice)
@@ -166,14 +183,13 @@ table =
     -- The dot test's variants written out; there is no third.
     ∷ writes dotTest 0 (file "plan=1/res=3/acts=5/act=0,4/act=1,2/act=1,3/act=2,5/act=1,6/nodes=5/node=s,2/node=a,0/node=p,2/node=a,3/node=a,4")
     ∷ checks dotTest 2 (timetable []) (CheckAnswers.Refused NoSuchVariant)
-    -- An s in an s through a picked x is dissolved, and an s in a p is not.
+    -- An s in an s and a p in a p through a picked x are dissolved, and an s in a p is not.
     ∷ writes (file "plan=1/res=1/acts=4/act=0,1/act=0,1/act=0,1/act=0,1/nodes=7/node=s,2/node=x,2/node=s,2/node=a,0/node=a,1/node=a,2/node=a,3") 0
     (file "plan=1/res=1/acts=4/act=0,1/act=0,1/act=0,1/act=0,1/nodes=4/node=s,3/node=a,0/node=a,1/node=a,3")
-    ∷ writes (file "plan=1/res=1/acts=2/act=0,1/act=0,1/nodes=4/node=p,2/node=s,1/node=a,0/node=a,1") 0
-    (file "plan=1/res=1/acts=2/act=0,1/act=0,1/nodes=4/node=p,2/node=s,1/node=a,0/node=a,1")
-    -- Groups of one: an s in an s is dissolved, an s in a p stays.
-    ∷ writes (file "plan=1/res=1/acts=1/act=0,1/nodes=4/node=p,1/node=s,1/node=s,1/node=a,0") 0
-    (file "plan=1/res=1/acts=1/act=0,1/nodes=3/node=p,1/node=s,1/node=a,0")
+    ∷ writes (file "plan=1/res=1/acts=4/act=0,1/act=0,1/act=0,1/act=0,1/nodes=7/node=p,2/node=a,3/node=x,2/node=a,2/node=p,2/node=a,0/node=a,1") 1
+    (file "plan=1/res=1/acts=4/act=0,1/act=0,1/act=0,1/act=0,1/nodes=4/node=p,3/node=a,3/node=a,0/node=a,1")
+    ∷ writes (file "plan=1/res=1/acts=3/act=0,1/act=0,1/act=0,1/nodes=5/node=p,2/node=s,2/node=a,0/node=a,1/node=a,2") 0
+    (file "plan=1/res=1/acts=3/act=0,1/act=0,1/act=0,1/nodes=5/node=p,2/node=s,2/node=a,0/node=a,1/node=a,2")
     -- An x under an s under an x.
     ∷ writes (file "plan=1/res=1/acts=4/act=0,1/act=0,1/act=0,1/act=0,1/nodes=7/node=x,2/node=s,2/node=x,2/node=a,0/node=a,1/node=a,2/node=a,3") 1
     (file "plan=1/res=1/acts=4/act=0,1/act=0,1/act=0,1/act=0,1/nodes=3/node=s,2/node=a,1/node=a,2")
@@ -208,9 +224,10 @@ table =
     ∷ finds dotTest 3 (0 ∷ []) 10 3
     ∷ stops dotTest 2 OverCap
     ∷ stops dotTest 0 OverCap
-    -- Both variants are shortest; a plan that the reader turns back.
+    -- Both variants are shortest; plans that the reader turns back.
     ∷ finds twiceUnderX 1000000 (0 ∷ 1 ∷ []) 1 2
     ∷ stops twiceUnderP 1000000 Twice
+    ∷ stops groupOfOne 1000000 (GroupOfOne 6)
     -- Two contested resources on one tick; 22 is missed if a free resource never waits; document 000, Example 2, second
     -- term.
     ∷ finds twoContested 1000000 (0 ∷ []) 2 4

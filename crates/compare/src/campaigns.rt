@@ -95,6 +95,7 @@ fn put_faults() {
     put_read(b"twice_under_p", &samples::twice_under_p());
     put_read(b"leading_zero", &samples::leading_zero());
     put_read(b"duration_2001", &samples::duration_2001());
+    put_read(b"group_of_one", &samples::group_of_one());
 }
 
 pub fn put_all() {

@@ -5,8 +5,16 @@ const FAULTS: u64 = 32;
 
 const FILES: u64 = crate::PLANS * FAULTS;
 
-// The refusals that rest on the file alone have the numbers below this; 0 stands for none.
-const NUMBERS: usize = 7;
+// The refusals that rest on the file alone have the numbers 1 to 6 and 10; 0 stands for none.
+const NUMBERS: usize = 8;
+
+fn place(number: u64) -> usize {
+    if number == 10 { 7 } else { number as usize }
+}
+
+fn number_at(place: usize) -> u64 {
+    if place == 7 { 10 } else { place as u64 }
+}
 
 // How many files the enumerator could judge, on how many of them the two agree, and how many have each number.
 struct Totals {
@@ -17,7 +25,7 @@ struct Totals {
 
 fn counted(files: [u64; NUMBERS], number: u64) -> [u64; NUMBERS] {
     let mut all = files;
-    let i = number as usize;
+    let i = place(number);
     if i < NUMBERS {
         all[i] = std::num::wrapping_add_u64(files[i], 1);
     }
@@ -56,12 +64,13 @@ fn over_seeds() -> Totals {
     t
 }
 
-fn put_number(number: usize, files: u64) {
+fn put_number(place: usize, files: u64) {
+    let number = number_at(place);
     if number == 0 {
         console::put(b"accepted");
     } else {
         console::put(b"refused=");
-        console::put_number(number as u64);
+        console::put_number(number);
     }
     console::put_line(b" files=", files);
 }

@@ -79,6 +79,9 @@ pub fn put_reason(refusal: Refusal) -> bool {
         Refusal::Range(_) => put(
             b"reason=A value on the line of that number is out of its range.\n",
         ),
+        Refusal::GroupOfOne(_) => put(
+            b"reason=The group on the line of that number has a single child.\n",
+        ),
         Refusal::NotOneTerm => put(b"reason=The nodes are not one whole term.\n"),
         Refusal::Twice => put(b"reason=Some variant has an activity twice.\n"),
         Refusal::TooManyVariants => put(b"reason=The plan has more than 4096 variants.\n"),

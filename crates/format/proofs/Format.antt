@@ -8,11 +8,11 @@ use borrow.Author.Tests.{le-ltb, ne-eqb, eqb-true}
 use lib.Dec.{ltb, eqb}
 use lib.ListN.{length}
 use Rattle.plan.specs.Limits.{longest, mostResources, mostActs, isEdition, isResourceCount, isActCount, isNodeCount}
-use Rattle.plan.specs.Limits.{editionForm, resourcesForm, actsForm, actForm, nodesForm, nodeForm}
-use Rattle.plan.specs.Plan.{Plan, isActivity, isNode, isPlan}
+use Rattle.plan.specs.Limits.{editionForm, resourcesForm, actsForm, nodesForm}
+use Rattle.plan.specs.Plan.{Plan, isPlan}
 use Rattle.plan.specs.declared.Refusal.the-variants.{Length}
 use Rattle.format.specs.Text.{text}
-use Rattle.format.specs.Parse.{LinesRead, read, stop, aLine, theLines, theEnd, number, activity-of, node-of}
+use Rattle.format.specs.Parse.{LinesRead, read, stop, theLines, theEnd, aCount, anActivity, aNode}
 use Rattle.format.specs.Parse.{planLines, Result, holds, refuses, parse}
 use Rattle.base.proofs.Bools.{by-bool, elim-true, elim-false}
 use Rattle.format.proofs.Tests.{between-facts}
@@ -50,12 +50,12 @@ text-of-lines : (s : List ℕ) (p : Plan) (line : ℕ) (rest : List ℕ) → pla
     → Sound p × (s ≡ text p)
 unfolding planLines text
 text-of-lines s p line rest e =
-    both-read _ (aLine editionForm number isEdition 1 s) e λ e₀ l₁ s₁ h₁ k₁.
-    both-read _ (aLine resourcesForm number isResourceCount l₁ s₁) k₁ λ r l₂ s₂ h₂ k₂.
-    both-read _ (aLine actsForm number isActCount l₂ s₂) k₂ λ n l₃ s₃ h₃ k₃.
-    both-read _ (theLines n (aLine actForm activity-of (isActivity r)) l₃ s₃) k₃ λ acts l₄ s₄ h₄ k₄.
-    both-read _ (aLine nodesForm number isNodeCount l₄ s₄) k₄ λ m l₅ s₅ h₅ k₅.
-    both-read _ (theLines m (aLine nodeForm node-of (isNode n)) l₅ s₅) k₅ λ nodes l₆ s₆ h₆ k₆.
+    both-read _ (aCount editionForm isEdition 1 s) e λ e₀ l₁ s₁ h₁ k₁.
+    both-read _ (aCount resourcesForm isResourceCount l₁ s₁) k₁ λ r l₂ s₂ h₂ k₂.
+    both-read _ (aCount actsForm isActCount l₂ s₂) k₂ λ n l₃ s₃ h₃ k₃.
+    both-read _ (theLines n (anActivity r) l₃ s₃) k₃ λ acts l₄ s₄ h₄ k₄.
+    both-read _ (aCount nodesForm isNodeCount l₄ s₄) k₄ λ m l₅ s₅ h₅ k₅.
+    both-read _ (theLines m (aNode n) l₅ s₅) k₅ λ nodes l₆ s₆ h₆ k₆.
     both-read _ (theEnd l₆ s₆) k₆ λ u l₇ s₇ h₇ k₇.
     let w₁ = edition-line .wrote 1 s e₀ l₁ s₁ h₁ in
     let w₂ = resources-line .wrote l₁ s₁ r l₂ s₂ h₂ in

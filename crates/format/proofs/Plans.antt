@@ -1,15 +1,16 @@
 -- `isPlan` by its parts, the ranges of an activity and a node, and a node's letter and number.
 use Prim.Native.Nat.{ℕ, _≤_, _<_}
-use mathlib.Core.Bool.{Bool, true, false, _&&_, false≢true}
-use mathlib.Core.Path.{_≡_, refl}
+use mathlib.Core.Bool.{Bool, true, false, not, _&&_, _||_, false≢true}
+use mathlib.Core.Path.{_≡_, refl, sym, ap, _∙_}
 use native.Mathlib.Omega.{arith}
-use borrow.Author.Tests.{ltb-true, eqb-true}
+use borrow.Author.Tests.{ltb-true, eqb-true, ne-eqb}
 use lib.Dec.{ltb, eqb}
 use lib.ListN.{length}
-use Rattle.plan.specs.Limits.{mostActs, longestDuration, mostChildren, isResourceCount, isActCount, isDuration}
-use Rattle.plan.specs.Limits.{isNodeCount}
+use Rattle.plan.specs.Limits.{mostActs, longestDuration, fewestChildren, mostChildren, isResourceCount, isActCount}
+use Rattle.plan.specs.Limits.{isDuration, isNodeCount, isChildCount}
 use Rattle.plan.specs.Plan.{Activity, Node, activity, seq, pll, xor, Plan, letterOf, valueOf, isLetter, nodeOf}
-use Rattle.plan.specs.Plan.{isActivity, isNode, isPlan}
+use Rattle.plan.specs.Plan.{isActivity, isNode, isGroupOfOne, isPlan}
+use Rattle.format.specs.Parse.{isRanged, isPlural}
 use Rattle.base.specs.Lists.{every}
 use Rattle.base.proofs.Bools.{by-bool, both, and-left, and-right}
 use Rattle.format.proofs.Tests.{between-facts}
@@ -56,9 +57,40 @@ module _ (r : ℕ) (a : Activity) (e : isActivity r a ≡ true) where
 
 pub number-most : (n : ℕ) (m : Node) → n ≤ mostActs → isNode n m ≡ true → valueOf m ≤ mostChildren
 number-most n (activity i) h e = omega (arith, ltb-true i n e)
-number-most n (seq k) h e = between-facts 1 mostChildren k e .1
-number-most n (pll k) h e = between-facts 1 mostChildren k e .1
-number-most n (xor k) h e = between-facts 1 mostChildren k e .1
+number-most n (seq k) h e = between-facts fewestChildren mostChildren k e .1
+number-most n (pll k) h e = between-facts fewestChildren mostChildren k e .1
+number-most n (xor k) h e = between-facts fewestChildren mostChildren k e .1
+
+-- A node in range is no group of one, and what passes both tests of its line is in range.
+one-child : (m : Node) → isGroupOfOne m ≡ true → valueOf m ≡ 1
+one-child (activity i) e = absurd (false≢true e)
+one-child (seq k) e = eqb-true k 1 e
+one-child (pll k) e = eqb-true k 1 e
+one-child (xor k) e = eqb-true k 1 e
+
+plural-count : (k : ℕ) → isChildCount k ≡ true → not (eqb k 1) ≡ true
+plural-count k e = ap not (ne-eqb k 1 (λ one. omega (arith, between-facts fewestChildren mostChildren k e)))
+
+pub node-plural : (n : ℕ) (m : Node) → isNode n m ≡ true → isPlural m ≡ true
+node-plural n (activity i) e = refl
+node-plural n (seq k) e = plural-count k e
+node-plural n (pll k) e = plural-count k e
+node-plural n (xor k) e = plural-count k e
+
+pub node-ranged : (n : ℕ) (m : Node) → isNode n m ≡ true → isRanged n m ≡ true
+node-ranged n m e = ap (λ (b : Bool). b || isGroupOfOne m) e
+
+ranged-cases : {C : Type 0} (n : ℕ) (m : Node) → isRanged n m ≡ true → (isNode n m ≡ true → C)
+    → (isGroupOfOne m ≡ true → C) → C
+ranged-cases n m e node one =
+    by-bool (isNode n m) node (λ f. one (sym (ap (λ (b : Bool). b || isGroupOfOne m) f) ∙ e))
+
+pub plural-node : (n : ℕ) (m : Node) → isRanged n m ≡ true → isPlural m ≡ true → isNode n m ≡ true
+plural-node n m e p =
+    ranged-cases n m e (λ node. node) (λ one. absurd (false≢true (sym (ap not one) ∙ p)))
+
+pub ranged-most : (n : ℕ) (m : Node) → n ≤ mostActs → isRanged n m ≡ true → valueOf m ≤ mostChildren
+ranged-most n m h e = ranged-cases n m e (number-most n m h) (λ one. omega (arith, one-child m one))
 
 -- A node is its letter and its number.
 pub node-same : (n : Node) → nodeOf (letterOf n) (valueOf n) ≡ n

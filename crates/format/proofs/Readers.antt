@@ -10,7 +10,7 @@ use Rattle.base.specs.Lists.{every}
 use Rattle.plan.specs.declared.Refusal.{Refusal}
 use Rattle.plan.specs.declared.Refusal.the-variants.{Form, Range}
 use Rattle.format.specs.Lines.{Fields, matched, filled}
-use Rattle.format.specs.Parse.{LinesRead, read, stop, Reader, aLine, theLines}
+use Rattle.format.specs.Parse.{LinesRead, read, stop, Reader, aLine, tested, theLines}
 use Rattle.base.proofs.Bools.{by-bool, both, and-left, and-right, elim-true, elim-false}
 use Rattle.format.proofs.Tests.{choose}
 use Rattle.format.proofs.Forms.{isForm, fitting, matched-filled, Filled, filled-matched}
@@ -37,16 +37,50 @@ pub record Exact {A : Type 0} (reader : Reader A) (write : A → List ℕ) (Ok :
   pub wrote : (line : ℕ) (s : List ℕ) (a : A) (line′ : ℕ) (s′ : List ℕ) → reader line s ≡ read a line′ s′
       → (Ok a) × (s ≡ write a ++ s′)
 
--- A line, where its values say one thing and that thing has those values.
-module _ {A : Type 0} (form : List ℕ) (make : List ℕ → A) (ok : A → Bool) where
+-- A line and a test of what it says: it takes what passes.
+module _ {A : Type 0} {reader : Reader A} {write : A → List ℕ} {Ok Good : A → Type 0} (passes : A → Bool)
+    (refusal : ℕ → Refusal) (exact : Exact reader write Ok) (meets : (a : A) → Good a → Ok a × (passes a ≡ true))
+    (good : (a : A) → Ok a → passes a ≡ true → Good a)
+  where
+    abbrev judged : ℕ → LinesRead A → LinesRead A
+    judged line o =
+        elim o [
+          | read a line′ s′ ↦ choose (passes a) (read a line′ s′) (stop (refusal line))
+          | stop r ↦ stop r
+        ]
+
+    passed : (line : ℕ) (s : List ℕ) (a : A) (line′ : ℕ) (s′ : List ℕ) (o : LinesRead A) → reader line s ≡ o
+        → judged line o ≡ read a line′ s′
+        → Good a × (s ≡ write a ++ s′)
+    passed line s a line′ s′ (stop r) q e = absurd (stopped e)
+    passed line s a line′ s′ (read b line₁ s₁) q e =
+        by-bool (passes b)
+        (λ v.
+        let same : read b line₁ s₁ ≡ read a line′ s′ = sym (elim-true _ _ _ v) ∙ e in
+        let eb : b ≡ a = cc in
+        let (ok, bytes) = exact .wrote line s a line′ s′ (q ∙ same) in
+        (good a ok (rw eb at v), bytes))
+        (λ v. absurd (stopped (sym (elim-false _ _ _ v) ∙ e)))
+
+    pub tested-exact : Exact (tested passes refusal reader) write Good
+    unfolding tested
+    tested-exact =
+        record {
+          reads =
+              λ a line s k.
+              let (ok, pass) = meets a k in
+              let (line′, here) = exact .reads a line s ok in
+              (line′, ap (judged line) here ∙ elim-true _ _ _ pass);
+          wrote = λ line s a line′ s′ e. passed line s a line′ s′ (reader line s) refl e;
+        }
+
+-- A line by its form, where its values say one thing and that thing has those values.
+module _ {A : Type 0} (form : List ℕ) (make : List ℕ → A) where
   abbrev answered : ℕ → Option Fields → LinesRead A
   answered line o =
-      elim o [
-        | none ↦ stop (Form line)
-        | some f ↦ choose (ok (make (f .values))) (read (make (f .values)) (line + 1) (f .rest)) (stop (Range line))
-      ]
+      elim o [ none ↦ stop (Form line) | some f ↦ read (make (f .values)) (line + 1) (f .rest) ]
 
-  answer : (line : ℕ) (s : List ℕ) → aLine form make ok line s ≡ answered line (matched form s)
+  answer : (line : ℕ) (s : List ℕ) → aLine form make line s ≡ answered line (matched form s)
   unfolding aLine
   answer line s = refl
 
@@ -54,36 +88,37 @@ module _ {A : Type 0} (form : List ℕ) (make : List ℕ → A) (ok : A → Bool
       (formed : isForm form ≡ true)
       (same : (a : A) → make (values a) ≡ a)
       (back : (vs : List ℕ) → fitting form vs ≡ true → values (make vs) ≡ vs)
-      (fits : (a : A) → ok a ≡ true → fitting form (values a) ≡ true)
     where
+      abbrev Formed : A → Type 0
+      Formed a = fitting form (values a) ≡ true
+
       says : (line : ℕ) (s : List ℕ) (a : A) (line′ : ℕ) (s′ : List ℕ) (o : Option Fields) → matched form s ≡ o
           → answered line o ≡ read a line′ s′
-          → (ok a ≡ true) × (s ≡ filled form (values a) ++ s′)
+          → Formed a × (s ≡ filled form (values a) ++ s′)
       says line s a line′ s′ none q e = absurd (stopped e)
       says line s a line′ s′ (some f) q e =
-          by-bool (ok (make (f .values)))
-          (λ v.
           let m : Filled form s f = filled-matched form s f q in
-          let e′ : read (make (f .values)) (line + 1) (f .rest) ≡ read a line′ s′ = sym (elim-true _ _ _ v) ∙ e in
           let ea : make (f .values) ≡ a = cc in
-          let es : f .rest ≡ s′ = cc in (
-            rw ea at v,
-            m .bytes
-                ∙ ap₂ (λ vs t. filled form vs ++ t) (sym (back (f .values) (m .fits)) ∙ ap values ea) es,
-          ))
-          (λ v. absurd (stopped (sym (elim-false _ _ _ v) ∙ e)))
+          let es : f .rest ≡ s′ = cc in
+          let ev : f .values ≡ values a = sym (back (f .values) (m .fits)) ∙ ap values ea in
+          (ap (fitting form) (sym ev) ∙ m .fits, m .bytes ∙ ap₂ (λ vs t. filled form vs ++ t) ev es)
 
-      pub line-exact : Exact (aLine form make ok) (λ a. filled form (values a)) (λ a. ok a ≡ true)
-      line-exact =
+      form-exact : Exact (aLine form make) (λ a. filled form (values a)) Formed
+      form-exact =
           record {
             reads =
                 λ a line s k. (
                   line + 1,
                   answer line (filled form (values a) ++ s)
-                      ∙ rw (matched-filled form (values a) s formed (fits a k)) (rw (same a) (elim-true _ _ _ k)),
+                      ∙ rw (matched-filled form (values a) s formed k) (rw (same a)),
                 );
             wrote = λ line s a line′ s′ e. says line s a line′ s′ (matched form s) refl (sym (answer line s) ∙ e);
           }
+
+      -- And with its values in range.
+      pub line-exact : (ok : A → Bool) → ((a : A) → ok a ≡ true → Formed a)
+          → Exact (tested ok Range (aLine form make)) (λ a. filled form (values a)) (λ a. ok a ≡ true)
+      line-exact ok fits = tested-exact ok Range form-exact (λ a k. (fits a k, k)) (λ a formed k. k)
 
 -- So many things, each `ok`, and their lines one behind the other.
 abbrev pub Count : {A : Type 0} → (A → Bool) → ℕ → List A → Type 0

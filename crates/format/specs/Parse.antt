@@ -1,16 +1,16 @@
 -- The plan that a text holds. Lines are taken one by one: refusal 2 where a line has not its form, then 3 where one
--- of its values is out of range.
+-- of its values is out of range, then 10 where it is a group of one.
 use Prim.Native.Nat.{ℕ, zero, suc, _+_}
-use mathlib.Core.Bool.{Bool, true, false, _||_}
+use mathlib.Core.Bool.{Bool, true, false, not, _||_}
 use mathlib.Core.List.{List, [], _∷_}
 use mathlib.Core.Option.{none, some}
 use lib.Dec.{ltb, eqb}
 use lib.ListN.{length, getD}
 use Rattle.plan.specs.Limits.{longest, isEdition, isResourceCount, isActCount, isNodeCount, editionForm}
 use Rattle.plan.specs.Limits.{resourcesForm, actsForm, actForm, nodesForm, nodeForm}
-use Rattle.plan.specs.Plan.{Activity, Node, Plan, nodeOf, isActivity, isNode}
+use Rattle.plan.specs.Plan.{Activity, Node, Plan, nodeOf, isActivity, isNode, isGroupOfOne}
 use Rattle.plan.specs.declared.Refusal.{Refusal}
-use Rattle.plan.specs.declared.Refusal.the-variants.{Length, Form, Range}
+use Rattle.plan.specs.declared.Refusal.the-variants.{Length, Form, Range, GroupOfOne}
 use Rattle.format.specs.Lines.{matched}
 
 -- What reading some lines gives: what they say, the number of the next line and the bytes from there on; or the
@@ -28,13 +28,17 @@ _>>=_ reader then line s = elim (reader line s) [ read a line′ s′ ↦ then a
 abbrev pub return : {A : Type 0} → A → Reader A
 return a line s = read a line s
 
--- One line: `make` is what its values say, `fits` their range.
-unfoldable pub aLine : {A : Type 0} → List ℕ → (List ℕ → A) → (A → Bool) → Reader A
-aLine form make fits line s =
-    elim (matched form s) [
-      | none ↦ stop (Form line)
-      | some f ↦ elim (fits (make (f .values)))
-          [ true ↦ read (make (f .values)) (line + 1) (f .rest) | false ↦ stop (Range line) ]
+-- One line: `make` is what its values say.
+unfoldable pub aLine : {A : Type 0} → List ℕ → (List ℕ → A) → Reader A
+aLine form make line s =
+    elim (matched form s) [ none ↦ stop (Form line) | some f ↦ read (make (f .values)) (line + 1) (f .rest) ]
+
+-- A test of what a line says, and the refusal of a line that does not pass it.
+unfoldable pub tested : {A : Type 0} → (A → Bool) → (ℕ → Refusal) → Reader A → Reader A
+tested passes refusal reader line s =
+    elim (reader line s) [
+      | read a line′ s′ ↦ elim (passes a) [ true ↦ read a line′ s′ | false ↦ stop (refusal line) ]
+      | stop r ↦ stop r
     ]
 
 -- So many lines of one form.
@@ -53,20 +57,36 @@ theEnd line (b ∷ s) = stop (Form line)
 abbrev pub number : List ℕ → ℕ
 number vs = getD vs 0 0
 
+abbrev pub aCount : List ℕ → (ℕ → Bool) → Reader ℕ
+aCount form fits = tested fits Range (aLine form number)
+
 abbrev pub activity-of : List ℕ → Activity
 activity-of vs = record { resource = getD vs 0 0; duration = getD vs 1 0 }
+
+abbrev pub anActivity : ℕ → Reader Activity
+anActivity resources = tested (isActivity resources) Range (aLine actForm activity-of)
 
 abbrev pub node-of : List ℕ → Node
 node-of vs = nodeOf (getD vs 0 0) (getD vs 1 0)
 
+-- A group of one passes the test of its range, and then has its own refusal.
+abbrev pub isRanged : ℕ → Node → Bool
+isRanged acts n = isNode acts n || isGroupOfOne n
+
+abbrev pub isPlural : Node → Bool
+isPlural n = not (isGroupOfOne n)
+
+abbrev pub aNode : ℕ → Reader Node
+aNode acts = tested isPlural GroupOfOne (tested (isRanged acts) Range (aLine nodeForm node-of))
+
 unfoldable pub planLines : Reader Plan
 planLines = do
-  e ← aLine editionForm number isEdition
-  r ← aLine resourcesForm number isResourceCount
-  n ← aLine actsForm number isActCount
-  acts ← theLines n (aLine actForm activity-of (isActivity r))
-  m ← aLine nodesForm number isNodeCount
-  nodes ← theLines m (aLine nodeForm node-of (isNode n))
+  e ← aCount editionForm isEdition
+  r ← aCount resourcesForm isResourceCount
+  n ← aCount actsForm isActCount
+  acts ← theLines n (anActivity r)
+  m ← aCount nodesForm isNodeCount
+  nodes ← theLines m (aNode n)
   u ← theEnd
   return (record { resources = r; activities = acts; nodes = nodes })
 

@@ -64,15 +64,10 @@ fn middle(state: u64, from: u8, to: u8) -> u8 {
     from + 1 + below(state, width - 1)
 }
 
-// A group of one.
-fn wrapped(t: Term, letter: u8, from: u8, to: u8) -> Term {
-    with_child(with_node(t, letter, 1), from, to)
-}
-
-// A group whose children part the range, in either order.
+// A group whose children part the range, in either order; of a range that cannot be parted, its activity.
 fn parted(t: Term, letter: u8, from: u8, to: u8, cut: u8) -> Term {
     if to <= cut {
-        return wrapped(t, letter, from, to);
+        return with_node(t, b'a', from);
     }
     if t.state / 16 % 2 == 0 {
         return with_child(with_child(with_node(t, letter, 2), from, cut), cut, to);
@@ -86,12 +81,9 @@ fn parted(t: Term, letter: u8, from: u8, to: u8, cut: u8) -> Term {
 
 // An x whose children share the range.
 fn forked(t: Term, from: u8, to: u8, cut: u8) -> Term {
-    let children = below(t.state, 3) + 1;
+    let children = below(t.state, 2) + 2;
     let mut u = with_child(with_node(t, b'x', children), from, cut);
     u.forks = std::num::wrapping_add_u8(t.forks, 1);
-    if children == 1 {
-        return u;
-    }
     if children == 2 {
         return with_child(u, from, to);
     }
@@ -105,11 +97,8 @@ fn forked(t: Term, from: u8, to: u8, cut: u8) -> Term {
 fn with_range(t: Term, from: u8, to: u8) -> Term {
     let kind = t.state % 8;
     let cut = middle(t.state / 256, from, to);
-    if ((kind == 0) & (0 < t.nodes)) | ((to <= cut) & (kind < 5)) {
+    if (kind == 0) & (0 < t.nodes) {
         return with_node(t, b'a', from);
-    }
-    if kind == 5 {
-        return wrapped(t, b's', from, to);
     }
     if (5 < kind) & (t.forks < 3) {
         return forked(t, from, to, cut);

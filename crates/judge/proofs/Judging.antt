@@ -6,24 +6,20 @@ use mathlib.Core.List.{List}
 use mathlib.Core.Option.{Option, none, some}
 use mathlib.Core.Path.{_≡_, refl, sym, ap, _∙_, subst}
 use borrow.Author.Tests.{lt-ltb, le-ltb}
-use lib.ListN.{length}
 use Rattle.plan.specs.Limits.{mostVariants}
 use Rattle.plan.specs.Plan.{Plan, planOf}
 use Rattle.plan.specs.declared.Refusal.{Refusal}
 use Rattle.plan.specs.declared.Refusal.the-variants.{NotOneTerm, Twice, TooManyVariants}
 use Rattle.plan.specs.declared.Tables.{Tables}
 use Rattle.format.specs.Parse.{parse, holds, refuses}
-use Rattle.format.proofs.Plans.{plan-sound}
 use Rattle.term.specs.Term.{Term, termOf}
-use Rattle.term.specs.Model.{full}
 use Rattle.term.specs.Variants.{variantCount, twice}
-use Rattle.term.proofs.Reading.{full-termOf}
 use Rattle.term_reader.specs.Reading.{readingOf}
 use Rattle.term_reader.specs.declared.Reading.{Reading}
 use Rattle.parser.specs.declared.Verdict.the-variants.{Accepted, Refused}
 use Rattle.judge.specs.Judge
 use Rattle.judge.specs.Judge.{judge, judgeTerm, judgeResult}
-use Rattle.judge.specs.Campaign.{Ranged, HoldsPlan}
+use Rattle.judge.specs.Campaign.{HoldsPlan}
 use Rattle.judge.specs.Judged.{Says, Judges}
 use Rattle.judge.specs.declared.Judged.{Judged}
 
@@ -70,13 +66,6 @@ module _ (p : Plan) {o : Option Term} (t : Term) (e : o ≡ some t) where
 
   pub is-accepted : twice t ≡ false → variantCount t ≤ mostVariants → judgeTerm p o ≡ Judge.accepts p t
   is-accepted d l = rw (e, d, le-ltb mostVariants (variantCount t) l)
-
--- In the term of a plan every group has a child.
-pub plan-full : {tables : Tables} → Ranged tables → (t : Term) → termOf (planOf tables .nodes) ≡ some t
-    → full t ≡ true
-plan-full {tables} r t =
-    let p = planOf tables in
-    full-termOf (p .nodes) (length (p .activities)) t (plan-sound p (r .ranges) .nodes)
 
 -- The judgement of a file.
 module _ (s : List ℕ) where

@@ -10,19 +10,21 @@ use lib.Dec.{leb}
 use lib.ListN.{length, drop, drop-of-length-le}
 use lib.Seq.{drop-cons}
 use borrow.Author.Tests.{le-leb, lt-leb}
-use Rattle.plan.specs.declared.Refusal.the-variants.{Form, Range}
+use Rattle.plan.specs.declared.Refusal.{Refusal}
+use Rattle.plan.specs.declared.Refusal.the-variants.{Form}
 use Rattle.format.specs.Lines.{Fields, matched, slots}
-use Rattle.format.specs.Parse.{LinesRead, read, stop, Reader, aLine, theEnd}
+use Rattle.format.specs.Parse.{LinesRead, read, stop, Reader, aLine, tested, theEnd}
 use Rattle.base.proofs.Bools.{elim-true, elim-false}
 use Rattle.format.proofs.Forms.{fitting-count, filled-matched}
-use Rattle.parser.specs.declared.Line.{Line}
+use Rattle.line_reader.specs.declared.Line.{Line}
 use Rattle.parser.specs.declared.Cursor.{Cursor}
 use Rattle.parser.specs.declared.Verdict.the-variants.{Accepted, Refused}
 use Rattle.parser.specs.Answer.{verdictOf}
-use Rattle.parser.specs.Steps.{Seen, started, seen, latest, latestOf, advance, refusalOf, outcome, resumed}
-use Rattle.parser.specs.Steps.{lineTaken, TakesLine, Reads}
-use Rattle.parser.proofs.Cases.{by-option, by-dec}
-use Rattle.parser.proofs.Forms.{seen-in, seen-out}
+use Rattle.line_reader.specs.Seen.{Seen, started, seen, latest, latestOf, advance}
+use Rattle.parser.specs.Steps.{outcome, resumed, lineTaken}
+use Rattle.parser.specs.Steps.{Stops, TakesLine, testTaken, TestsLine, Reads}
+use Rattle.line_reader.proofs.Cases.{by-option, by-dec}
+use Rattle.line_reader.proofs.Forms.{seen-in, seen-out}
 
 -- What is read before a line is known to be there.
 abbrev u : Unit {0}
@@ -31,11 +33,11 @@ u = tt
 module _ {A : Type 0} (s : List ℕ) (c : Cursor) (a : A) where
   pub outcome-in : c .at ≤ length s → outcome s c a ≡ read a (c .line) (drop (c .at) s)
   unfolding outcome
-  outcome-in h = elim-true (leb (c .at) (length s)) _ (stop (refusalOf c)) (le-leb (c .at) (length s) h)
+  outcome-in h = elim-true (leb (c .at) (length s)) _ (stop (c .refusal)) (le-leb (c .at) (length s) h)
 
-  pub outcome-out : length s < c .at → outcome s c a ≡ stop (refusalOf c)
+  pub outcome-out : length s < c .at → outcome s c a ≡ stop (c .refusal)
   unfolding outcome
-  outcome-out h = elim-false (leb (c .at) (length s)) _ (stop (refusalOf c)) (lt-leb (c .at) (length s) h)
+  outcome-out h = elim-false (leb (c .at) (length s)) _ (stop (c .refusal)) (lt-leb (c .at) (length s) h)
 
 -- The same outcome with other contents.
 abbrev pub mapped : {A B : Type 0} → (A → B) → LinesRead A → LinesRead B
@@ -61,45 +63,24 @@ latest-rest a b [] rest = refl
 latest-rest a b (v ∷ vs) rest = latest-rest b v vs rest
 
 -- What a line says by what its form matches.
-module _ {A : Type 0} (make : List ℕ → A) (fits : A → Bool) (line : ℕ) where
+module _ {A : Type 0} (make : List ℕ → A) (line : ℕ) where
   abbrev said : Option Fields → LinesRead A
-  said o =
-      elim o [
-        | none ↦ stop (Form line)
-        | some f ↦ elim (fits (make (f .values)))
-            [ true ↦ read (make (f .values)) (line + 1) (f .rest) | false ↦ stop (Range line) ]
-      ]
+  said o = elim o [ none ↦ stop (Form line) | some f ↦ read (make (f .values)) (line + 1) (f .rest) ]
 
-  line-says : (form s : List ℕ) (o : Option Fields) → matched form s ≡ o → aLine form make fits line s ≡ said o
+  line-says : (form s : List ℕ) (o : Option Fields) → matched form s ≡ o → aLine form make line s ≡ said o
   unfolding aLine
   line-says form s o e = ap said e
 
--- A line that is matched and taken is the line of its form.
-module _ {A : Type 0} (s : List ℕ) (before after : Cursor) (l : Line)
-    (form : List ℕ) (make : List ℕ → A) (fits : A → Bool) (a : A) (ok : Bool)
-    (line-is : seen s l ≡ advance form (seen s (started (before .at)))) (taken : TakesLine s before l ok after)
+-- A line that is matched and taken is the line of its form, and says what its two latest values make.
+module _ {A : Type 0} (s : List ℕ) (before after : Cursor) (l : Line) (form : List ℕ) (make : List ℕ → A) (a : A)
+    (line-is : seen s l ≡ advance form (seen s (started (before .at)))) (taken : TakesLine s before l after)
     (made : (vs rest : List ℕ) → length vs ≡ slots form
-    → l .first ≡ latest 0 0 vs rest .first → l .second ≡ latest 0 0 vs rest .second
-    → (fits (make vs) ≡ ok) × (ok ≡ true → make vs ≡ a)) where
-  abbrev decided : A → ℕ → List ℕ → Bool → LinesRead A
-  decided x line rest t = elim t [ true ↦ read x (line + 1) rest | false ↦ stop (Range line) ]
-
-  settled : (line : ℕ) (t rest : List ℕ) (x : Seen) (b : Bool) → x .rest ≡ rest
-      → mapped (λ (u : Unit {0}). a) (lineTaken (read tt line t) (some x) b) ≡ decided a line rest b
-  unfolding lineTaken
-  settled line t rest x true e = ap (read a (line + 1)) e
-  settled line t rest x false e = refl
-
-  same-decision : (line : ℕ) (rest : List ℕ) (x : A) (b : Bool) → (b ≡ true → x ≡ a)
-      → decided x line rest b ≡ decided a line rest b
-  same-decision line rest x true e = ap (λ (y : A). read y (line + 1) rest) (e refl)
-  same-decision line rest x false e = refl
-
-  pub line-reads : Reads s before (aLine form make fits) 1 after a
+    → l .first ≡ latest 0 0 vs rest .first → l .second ≡ latest 0 0 vs rest .second → make vs ≡ a) where
+  pub line-reads : Reads s before (aLine form make) 1 after a
   unfolding resumed lineTaken advance
   line-reads =
-      let reader : Reader A = aLine form make fits in
-      let answer : LinesRead (Unit {0}) → Option Seen → LinesRead A = λ o x. mapped (λ _. a) (lineTaken o x ok) in
+      let reader : Reader A = aLine form make in
+      let answer : LinesRead (Unit {0}) → Option Seen → LinesRead A = λ o x. mapped (λ _. a) (lineTaken o x) in
       let start : outcome s after a ≡ answer (outcome s before u) (seen s l) =
       outcome-map s after (λ (v : Unit {0}). a) u ∙ ap (mapped (λ _. a)) (taken .outcome-is) in
       record {
@@ -113,67 +94,128 @@ module _ {A : Type 0} (s : List ℕ) (before after : Cursor) (l : Line)
             start ∙ ap (λ (o : LinesRead (Unit {0})). answer o (seen s l)) e₀
             ∙ by-option (matched form x)
             (λ e. ap (answer (read u (before .line) x)) (e₁ ∙ ap (latestOf 0 0) e)
-            ∙ sym (line-says make fits (before .line) form x none e))
+            ∙ sym (line-says make (before .line) form x none e))
             (λ f e.
             let y : Seen = latest 0 0 (f .values) (f .rest) in
             let e₂ : seen s l ≡ some y = e₁ ∙ ap (latestOf 0 0) e in
             let two = seen-some s l y e₂ in
             let count = fitting-count form (f .values) (filled-matched form x f e .fits) in
-            let m = made (f .values) (f .rest) count (two .0) (two .1) in
             ap (answer (read u (before .line) x)) e₂
-            ∙ settled (before .line) x (f .rest) y ok (latest-rest 0 0 (f .values) (f .rest))
-            ∙ sym (line-says make fits (before .line) form x (some f) e
-            ∙ ap (decided (make (f .values)) (before .line) (f .rest)) (m .0)
-            ∙ same-decision (before .line) (f .rest) (make (f .values)) ok (m .1)))
+            ∙ ap₂ (λ (b : A) t. read b (before .line + 1) t) (sym (made (f .values) (f .rest) count (two .0) (two .1)))
+            (latest-rest 0 0 (f .values) (f .rest))
+            ∙ sym (line-says make (before .line) form x (some f) e))
             ∙ sym (ap (λ (o : LinesRead (Unit {0})). resumed o reader) e₀))
             (λ h.
-            let e₀ : outcome s before u ≡ stop (refusalOf before) = outcome-out s before u (omega arith) in
+            let e₀ : outcome s before u ≡ stop (before .refusal) = outcome-out s before u (omega arith) in
             start ∙ ap (λ (o : LinesRead (Unit {0})). answer o (seen s l)) e₀
             ∙ sym (ap (λ (o : LinesRead (Unit {0})). resumed o reader) e₀));
         line = taken .line;
       }
 
--- A cursor with its position, the number of its line, and what is wrong with that line.
-abbrev at-line : ℕ → ℕ → Bool → Cursor
-at-line at line range = record { at = at; line = line; range = range }
+-- A test of what a line says. What is kept of it, where it passes, is what it says.
+module _ {A : Type 0} {s : List ℕ} {before taken after : Cursor} {reader : Reader A} {lines : ℕ} {a kept : A}
+    (reads : Reads s before reader lines taken a) (passes : A → Bool) (refusal : ℕ → Refusal) {pass : Bool}
+    (tests : TestsLine s taken pass (refusal (before .line)) after) (same : pass ≡ passes a)
+    (keeps : pass ≡ true → a ≡ kept) where
+  abbrev decided : ℕ → List ℕ → A → Bool → LinesRead A
+  decided line t x b = elim b [ true ↦ read x line t | false ↦ stop (refusal (before .line)) ]
 
--- A line as it is seen, taken at a cursor.
-abbrev decision : List ℕ → Cursor → Line → Bool → LinesRead (Unit {0})
-decision s before l =
-    lineTaken (read u (before .line) (drop (before .at) s))
-    (some (record { first = l .first; second = l .second; rest = drop (l .next) s }))
+  abbrev judged : LinesRead A → LinesRead A
+  judged o = elim o [ read x line t ↦ decided line t x (passes x) | stop r ↦ stop r ]
+
+  abbrev answer : LinesRead (Unit {0}) → LinesRead A
+  answer o = mapped (λ _. kept) (testTaken o pass (refusal (before .line)))
+
+  passed : (line : ℕ) (t : List ℕ) (b : Bool) → (b ≡ true → a ≡ kept)
+      → mapped (λ (u : Unit {0}). kept) (testTaken (read tt line t) b (refusal (before .line))) ≡ decided line t a b
+  unfolding testTaken
+  passed line t true e = ap (λ (x : A). read x line t) (sym (e refl))
+  passed line t false e = refl
+
+  judged-is : outcome s after kept ≡ judged (outcome s taken a)
+  unfolding testTaken
+  judged-is =
+      let line = taken .line in
+      let t = drop (taken .at) s in
+      outcome-map s after (λ (v : Unit {0}). kept) u ∙ ap (mapped (λ _. kept)) (tests .outcome-is)
+      ∙ by-dec (decLe (taken .at) (length s))
+      (λ h.
+      ap answer (outcome-in s taken u h) ∙ passed line t pass keeps ∙ ap (decided line t a) same
+      ∙ sym (ap judged (outcome-in s taken a h)))
+      (λ h.
+      ap answer (outcome-out s taken u (omega arith)) ∙ sym (ap judged (outcome-out s taken a (omega arith))))
+
+  pub test-reads : Reads s before (tested passes refusal reader) lines after kept
+  unfolding resumed tested
+  test-reads =
+      let judge-it : LinesRead (Unit {0}) → LinesRead A = λ o. judged (resumed o reader) in
+      let read-on : LinesRead (Unit {0}) → LinesRead A = λ o. resumed o (tested passes refusal reader) in
+      record {
+        outcome-is =
+            judged-is ∙ ap judged (reads .outcome-is)
+            ∙ by-dec (decLe (before .at) (length s))
+            (λ h. let e = outcome-in s before u h in ap judge-it e ∙ sym (ap read-on e))
+            (λ h. let e = outcome-out s before u (omega arith) in ap judge-it e ∙ sym (ap read-on e));
+        line = omega (arith, tests .line, reads .line);
+      }
+
+-- Nowhere, the text is refused.
+pub stops : {s : List ℕ} {k line : ℕ} {refusal : Refusal} → length s < k
+    → Stops s line refusal (record { at = k; line = line; refusal = refusal })
+stops {s} {k} {line} {refusal} h =
+    record { outcome-is = outcome-out s (record { at = k; line = line; refusal = refusal }) u h; line-is = refl }
 
 -- What the code decides of a line.
-module _ {s : List ℕ} {before : Cursor} {l : Line} {ok : Bool} where
+module _ {s : List ℕ} {before : Cursor} {l : Line} where
   taken-as : {after : Cursor} {x : LinesRead (Unit {0})} {y : Option Seen} → outcome s before u ≡ x → seen s l ≡ y
-      → outcome s after u ≡ lineTaken x y ok → after .line ≤ before .line + 1 → TakesLine s before l ok after
-  taken-as e f is h = record { outcome-is = is ∙ sym (ap₂ (λ x y. lineTaken x y ok) e f); line = h }
+      → outcome s after u ≡ lineTaken x y → after .line ≤ before .line + 1 → TakesLine s before l after
+  taken-as e f is h = record { outcome-is = is ∙ sym (ap₂ lineTaken e f); line = h }
 
-  pub taken-stopped : length s < before .at → TakesLine s before l ok before
+  pub taken-stopped : length s < before .at → TakesLine s before l before
   unfolding lineTaken
   taken-stopped h = let out = outcome-out s before u h in taken-as out refl out (omega arith)
 
   module _ (start : before .at ≤ length s) where
-    pub taken-form : length s < l .next → TakesLine s before l ok (at-line (l .next) (before .line) false)
+    pub taken-form : length s < l .next → {after : Cursor} → Stops s (before .line) (Form (before .line)) after
+        → TakesLine s before l after
     unfolding lineTaken
-    taken-form h =
-        taken-as (outcome-in s before u start) (seen-out s l h)
-        (outcome-out s (at-line (l .next) (before .line) false) u h)
+    taken-form h st =
+        taken-as (outcome-in s before u start) (seen-out s l h) (st .outcome-is) (omega (arith, st .line-is))
+
+    pub taken-read : l .next ≤ length s → {r : Refusal}
+        → TakesLine s before l (record { at = l .next; line = before .line + 1; refusal = r })
+    unfolding lineTaken
+    taken-read h {r} =
+        taken-as (outcome-in s before u start) (seen-in s l h)
+        (outcome-in s (record { at = l .next; line = before .line + 1; refusal = r }) u h)
         (omega arith)
 
-    module _ (within : l .next ≤ length s) where
-      pub taken-read : ok ≡ true → TakesLine s before l ok (at-line (l .next) (before .line + 1) false)
-      unfolding lineTaken
-      taken-read e =
-          taken-as (outcome-in s before u start) (seen-in s l within)
-          (outcome-in s (at-line (l .next) (before .line + 1) false) u within ∙ ap (decision s before l) (sym e))
-          (omega arith)
+-- What the code decides of a test.
+module _ {s : List ℕ} {before : Cursor} {pass : Bool} {refusal : Refusal} where
+  tested-as : {after : Cursor} {x : LinesRead (Unit {0})} → outcome s before u ≡ x
+      → outcome s after u ≡ testTaken x pass refusal → after .line ≤ before .line
+      → TestsLine s before pass refusal after
+  tested-as e is h = record { outcome-is = is ∙ sym (ap (λ x. testTaken x pass refusal) e); line = h }
 
-      pub taken-range : ok ≡ false → {k : ℕ} → length s < k → TakesLine s before l ok (at-line k (before .line) true)
-      unfolding lineTaken
-      taken-range e {k} h =
-          taken-as (outcome-in s before u start) (seen-in s l within)
-          (outcome-out s (at-line k (before .line) true) u h ∙ ap (decision s before l) (sym e)) (omega arith)
+  pub test-stopped : length s < before .at → TestsLine s before pass refusal before
+  unfolding testTaken
+  test-stopped h = let out = outcome-out s before u h in tested-as out out (omega arith)
+
+  module _ (start : before .at ≤ length s) where
+    pub test-passed : pass ≡ true → TestsLine s before pass refusal before
+    unfolding testTaken
+    test-passed e =
+        let in′ = outcome-in s before u start in
+        tested-as in′ (in′ ∙ ap (λ b. testTaken (read u (before .line) (drop (before .at) s)) b refusal) (sym e))
+        (omega arith)
+
+    pub test-failed : pass ≡ false → {after : Cursor} → Stops s (before .line) refusal after
+        → TestsLine s before pass refusal after
+    unfolding testTaken
+    test-failed e st =
+        tested-as (outcome-in s before u start)
+        (st .outcome-is ∙ ap (λ b. testTaken (read u (before .line) (drop (before .at) s)) b refusal) (sym e))
+        (omega (arith, st .line-is))
 
 -- The end of the text, and the verdict.
 abbrev ended : LinesRead (Unit {0}) → LinesRead (Unit {0})
@@ -191,25 +233,26 @@ module _ (s : List ℕ) (c : Cursor) where
             outcome-in s c u w ∙ ap (read u (c .line)) (drop-of-length-le s h) in
             e ∙ sym (ap ended e))
             (λ w.
-            let e : outcome s c u ≡ stop (refusalOf c) = outcome-out s c u (omega arith) in
+            let e : outcome s c u ≡ stop (c .refusal) = outcome-out s c u (omega arith) in
             e ∙ sym (ap ended e));
         line = omega arith;
       }
 
-  pub end-later : c .at < length s → {k : ℕ} → length s < k → Reads s c theEnd 0 (at-line k (c .line) false) u
+  pub end-later : c .at < length s → {after : Cursor} → Stops s (c .line) (Form (c .line)) after
+      → Reads s c theEnd 0 after u
   unfolding resumed theEnd
-  end-later h {k} out =
+  end-later h st =
       record {
         outcome-is =
-            outcome-out s (at-line k (c .line) false) u out
+            st .outcome-is
             ∙ sym (ap ended (outcome-in s c u (omega arith) ∙ ap (read u (c .line)) (drop-cons s (c .at) 0 h)));
-        line = omega arith;
+        line = omega (arith, st .line-is);
       }
 
   pub verdict-in : c .at ≤ length s → Accepted ≡ verdictOf (outcome s c u)
   unfolding verdictOf
   verdict-in h = sym (ap verdictOf (outcome-in s c u h))
 
-  pub verdict-out : length s < c .at → Refused (refusalOf c) ≡ verdictOf (outcome s c u)
+  pub verdict-out : length s < c .at → Refused (c .refusal) ≡ verdictOf (outcome s c u)
   unfolding verdictOf
   verdict-out h = sym (ap verdictOf (outcome-out s c u h))

@@ -1,6 +1,6 @@
 -- The lines in their order are the plan's lines, and the last cursor gives the answer.
 use Prim.Native.Nat.{ℕ, _≤_, _<_}
-use mathlib.Core.Bool.{Bool, true, false, _||_}
+use mathlib.Core.Bool.{Bool, true, _||_}
 use mathlib.Core.List.{List}
 use mathlib.Core.Path.{_≡_, sym, ap, _∙_, subst, fun-ext}
 use native.Mathlib.Decide.{decLe}
@@ -12,17 +12,18 @@ use Rattle.plan.specs.Limits.{between, longest, mostResources, mostActs, mostNo
 use Rattle.plan.specs.Limits.{resourcesForm, actsForm, nodesForm}
 use Rattle.plan.specs.Plan.{Activity, Node, Plan, planOf}
 use Rattle.plan.specs.declared.Tables.{Tables}
-use Rattle.plan.specs.declared.Refusal.the-variants.{Length}
-use Rattle.format.specs.Parse.{LinesRead, read, stop, Reader, _>>=_, return, aLine, theLines, theEnd, number}
-use Rattle.format.specs.Parse.{planLines, Result, holds, refuses, parse}
+use Rattle.plan.specs.declared.Refusal.the-variants.{Length, Form}
+use Rattle.format.specs.Parse.{LinesRead, read, stop, Reader, _>>=_, return, theLines, theEnd, aCount}
+use Rattle.format.specs.Parse.{anActivity, aNode, planLines, Result, holds, refuses, parse}
 use Rattle.parser.specs.declared.Parsed.{Parsed}
 use Rattle.parser.specs.declared.Cursor.{Cursor}
 use Rattle.parser.specs.declared.Verdict.{Verdict}
 use Rattle.parser.specs.declared.Verdict.the-variants.{Accepted, Refused}
 use Rattle.parser.specs.Answer.{resultOf, verdictOf, Answers}
-use Rattle.parser.specs.Steps.{outcome, resumed, anActivity, aNode, Reads}
+use Rattle.parser.specs.Steps.{outcome, resumed, Reads}
 use Rattle.base.proofs.Bools.{by-bool, elim-true, elim-false}
-use Rattle.parser.proofs.Cases.{by-dec, between-under, between-over}
+use Rattle.ranges.proofs.Between.{between-under, between-over}
+use Rattle.line_reader.proofs.Cases.{by-dec}
 use Rattle.parser.proofs.Cursors.{outcome-in, outcome-out, verdict-in, verdict-out}
 
 edition-is : (n : ℕ) → between 1 1 n ≡ isEdition n
@@ -87,28 +88,28 @@ answered s c v t e =
     ∙ sym (ap concluded (outcome-out s c (planOf t) (omega arith))))
 
 abbrev start : Cursor
-start = record { at = 0; line = 1; range = false }
+start = record { at = 0; line = 1; refusal = Form 1 }
 
 module _ {s : List ℕ} {s₁ s₂ s₃ s₄ s₅ s₆ s₇ : Cursor} {e r n m : ℕ} {acts : List Activity} {nodes : List Node}
-    (edition : Reads s start (aLine editionForm number (between 1 1)) 1 s₁ e)
-    (resources : Reads s s₁ (aLine resourcesForm number (between 1 mostResources)) 1 s₂ r)
-    (act-count : Reads s s₂ (aLine actsForm number (between 1 mostActs)) 1 s₃ n)
+    (edition : Reads s start (aCount editionForm (between 1 1)) 1 s₁ e)
+    (resources : Reads s s₁ (aCount resourcesForm (between 1 mostResources)) 1 s₂ r)
+    (act-count : Reads s s₂ (aCount actsForm (between 1 mostActs)) 1 s₃ n)
     (activities : Reads s s₃ (theLines n (anActivity r)) n s₄ acts)
-    (node-count : Reads s s₄ (aLine nodesForm number (between 1 mostNodes)) 1 s₅ m)
+    (node-count : Reads s s₄ (aCount nodesForm (between 1 mostNodes)) 1 s₅ m)
     (tree : Reads s s₅ (theLines m (aNode n)) m s₆ nodes)
     (end : Reads s s₆ theEnd 0 s₇ (tt {0})) where
   plan-lines : planLines 1 s ≡ outcome s s₇ (record { resources = r; activities = acts; nodes = nodes })
   unfolding planLines
   plan-lines =
-      let first : Reads s start (aLine editionForm number isEdition) 1 s₁ e =
-      subst (λ (fits : ℕ → Bool). Reads s start (aLine editionForm number fits) 1 s₁ e) (fun-ext edition-is) edition
+      let first : Reads s start (aCount editionForm isEdition) 1 s₁ e =
+      subst (λ (fits : ℕ → Bool). Reads s start (aCount editionForm fits) 1 s₁ e) (fun-ext edition-is) edition
       in
       ap (λ (o : LinesRead (Unit {0})). bound o (λ u. planLines)) (sym (outcome-in s start tt (omega arith)))
-      ∙ step (tt {0}) (λ _. aLine editionForm number isEdition) _ first
-      ∙ step e (λ _. aLine resourcesForm number (between 1 mostResources)) _ resources
-      ∙ step r (λ _. aLine actsForm number (between 1 mostActs)) _ act-count
+      ∙ step (tt {0}) (λ _. aCount editionForm isEdition) _ first
+      ∙ step e (λ _. aCount resourcesForm (between 1 mostResources)) _ resources
+      ∙ step r (λ _. aCount actsForm (between 1 mostActs)) _ act-count
       ∙ step n (λ k. theLines k (anActivity r)) _ activities
-      ∙ step acts (λ _. aLine nodesForm number (between 1 mostNodes)) _ node-count
+      ∙ step acts (λ _. aCount nodesForm (between 1 mostNodes)) _ node-count
       ∙ step m (λ k. theLines k (aNode n)) _ tree
       ∙ step nodes (λ _. theEnd) _ end
       ∙ returned s s₇ (tt {0}) (record { resources = r; activities = acts; nodes = nodes })

@@ -1,17 +1,15 @@
-// Reads the text of a plan file into tables, in one pass. A position past the end of the text is nowhere: nothing is
-// found there, and what follows it is nowhere too.
+// Reads the text of a plan file into tables, in one pass. Past the end of the text is nowhere, and what follows it is
+// nowhere too.
 ghost use Prim.Native.Nat.{_+_, _≤_, _<_};
 ghost use mathlib.Core.Path.{_≡_};
-ghost use mathlib.Core.List.{[], _∷_};
-ghost use mathlib.Core.Option.{none};
-ghost use lib.ListN.{length, getD, take};
-ghost use Rattle.plan.specs.Limits.{between, longest, mostDigits, mostResources, mostActs, mostNodes};
-ghost use Rattle.plan.specs.Plan.{isLetter, isActivity, isNode, nodeOf, activitiesOf, nodesOf};
-ghost use Rattle.format.specs.Lines.{isSized, slots};
-ghost use Rattle.format.specs.Parse.{theLines, theEnd};
+ghost use lib.ListN.{length, take};
+ghost use Rattle.plan.specs.Limits.{longest, mostResources, mostActs, mostNodes};
+ghost use Rattle.plan.specs.Plan.{nodeOf, activitiesOf, nodesOf};
+ghost use Rattle.format.specs.Lines.{slots};
+ghost use Rattle.format.specs.Parse.{theLines, theEnd, anActivity, aNode};
 ghost use Rattle.parser.specs.Answer.{Answers, verdictOf};
-ghost use Rattle.parser.specs.Steps.{stepped, digitsRead, started, seen, advance, outcome, anActivity, aNode};
-ghost use Rattle.parser.specs.Steps.{TakesLine, Reads, ReadsCount};
+ghost use Rattle.parser.specs.Steps.{rangedNode, outcome, Stops, TakesLine, TestsLine, Reads, ReadsCount};
+use line_reader::Line;
 use plan::MOST_ACTS;
 use plan::MOST_NODES;
 use plan::Refusal;
@@ -22,11 +20,7 @@ const RESOURCES: u32 = plan::MOST_RESOURCES as u32;
 
 const ACTS: u32 = MOST_ACTS as u32;
 
-const DURATION: u32 = plan::LONGEST_DURATION as u32;
-
 const NODES: u32 = MOST_NODES as u32;
-
-const CHILDREN: u32 = plan::MOST_CHILDREN as u32;
 
 pub enum Verdict {
     Accepted,
@@ -39,25 +33,12 @@ pub struct Parsed {
     pub tables: Tables,
 }
 
-// A run of digits, read as far as `at`.
-struct Digits {
-    at: usize,
-    total: u32,
-}
-
-// A line that is read as far as `next`, with its two latest values.
-struct Line {
-    next: usize,
-    first: u32,
-    second: u32,
-}
-
-// The next line starts at `at` and has the number `line`. Where `at` is nowhere this line is refused: its values are
-// out of range, or it has not its form.
+// The next line starts at `at` and has the number `line`. Where `at` is nowhere the text is refused by `refusal`, which
+// means nothing elsewhere.
 struct Cursor {
     at: usize,
     line: u64,
-    range: bool,
+    refusal: Refusal,
 }
 
 // A line that was read, and the cursor after it. Where it is refused its values mean nothing.
@@ -91,208 +72,48 @@ struct NodeTable {
     number: [u8; MOST_NODES],
 }
 
-// A position past the end.
-fn nowhere(file: &[u8]) -> usize
-    ensures { λ r. ⌜ length (now (file .entry)) < r ⌝ }
+// Nowhere, at a line: the text is refused.
+fn stopped(file: &[u8], line: u64, refusal: Refusal) -> Cursor
+    ensures { λ r. ⌜ Stops (now (file .entry)) line refusal r ⌝ }
 {
-    file.len() + 1
-}
-
-// The byte at a position, 0 past the end.
-fn byte(file: &[u8], at: usize) -> u8
-    ensures { λ r. ⌜ r ≡ getD (now (file .entry)) at 0 ⌝ }
-{
-    if at < file.len() { file[at] } else { 0 }
-}
-
-fn wide(b: u8) -> u32
-    ensures { λ r. ⌜ r ≡ b ⌝ }
-{
-    b as u32
-}
-
-fn in_range(low: u32, high: u32, n: u32) -> bool
-    ensures { λ r. ⌜ r ≡ between low high n ⌝ }
-{
-    if low <= n { n <= high } else { false }
-}
-
-// A digit more, where one stands.
-fn digit(file: &[u8], n: Digits) -> Digits
-    requires { ⌜ n .total < 100000 ⌝ }
-    ensures { λ r. ⌜ r ≡ stepped (now (file .entry)) n ⌝ }
-{
-    let at = n.at;
-    let b = wide(byte(file, at));
-    if in_range(48, 57, b) {
-        Digits {
-            at: at + 1,
-            total: n.total * 10 + (b - 48),
-        }
-    } else {
-        n
+    Cursor {
+        at: line_reader::nowhere(file),
+        line,
+        refusal,
     }
 }
 
-// The digits from a position on, at most six of them: a value has no more than five.
-fn read_digits(file: &[u8], at: usize) -> Digits
-    ensures { λ r. ⌜ r ≡ digitsRead (now (file .entry)) at ⌝ }
-{
-    let mut n = Digits { at, total: 0 };
-    let mut i: usize = 0;
-    while i < 6 {
-        n = digit(file, n);
-        i += 1;
-    }
-    n
-}
-
-fn is_value(size: usize, first: u8) -> bool
-    ensures { λ r. ⌜ r ≡ isSized mostDigits size first ⌝ }
-{
-    match size {
-        1 => true,
-        2..=5 => first != b'0',
-        _ => false,
-    }
-}
-
-fn is_letter(b: u8) -> bool
-    ensures { λ r. ⌜ r ≡ isLetter b ⌝ }
-{
-    match b {
-        b'a' => true,
-        b's' => true,
-        b'p' => true,
-        b'x' => true,
-        _ => false,
-    }
-}
-
-// A line that has not its form.
-fn lost(file: &[u8]) -> Line
-    ensures { λ r. ⌜ seen (now (file .entry)) r ≡ none ⌝ }
-{
-    Line {
-        next: nowhere(file),
-        first: 0,
-        second: 0,
-    }
-}
-
-// `#` in a form.
-fn value(file: &[u8], line: Line) -> Line
-    ensures { λ r. ⌜ seen (now (file .entry)) r ≡ advance (35 ∷ []) (seen (now (file .entry)) line) ⌝ }
-{
-    let at = line.next;
-    let n = read_digits(file, at);
-    let size = n.at - at;
-    if is_value(size, byte(file, at)) {
-        Line {
-            next: n.at,
-            first: line.second,
-            second: n.total,
-        }
-    } else {
-        lost(file)
-    }
-}
-
-// `@` in a form.
-fn letter(file: &[u8], line: Line) -> Line
-    ensures { λ r. ⌜ seen (now (file .entry)) r ≡ advance (64 ∷ []) (seen (now (file .entry)) line) ⌝ }
-{
-    let at = line.next;
-    let b = byte(file, at);
-    if is_letter(b) {
-        Line {
-            next: at + 1,
-            first: line.second,
-            second: wide(b),
-        }
-    } else {
-        lost(file)
-    }
-}
-
-// Any other byte of a form.
-fn literal(file: &[u8], line: Line, b: u8) -> Line
-    requires { ⌜ (b ≡ 35 → ⊥) × (b ≡ 64 → ⊥) ⌝ }
-    ensures { λ r. ⌜ seen (now (file .entry)) r ≡ advance (b ∷ []) (seen (now (file .entry)) line) ⌝ }
-{
-    let at = line.next;
-    if at < file.len() {
-        if file[at] == b {
-            return Line {
-                next: at + 1,
-                first: line.first,
-                second: line.second,
-            };
-        }
-    }
-    lost(file)
-}
-
-// One byte of a form.
-fn piece(file: &[u8], line: Line, b: u8) -> Line
-    ensures { λ r. ⌜ seen (now (file .entry)) r ≡ advance (b ∷ []) (seen (now (file .entry)) line) ⌝ }
-{
-    if b == b'#' {
-        return value(file, line);
-    }
-    if b == b'@' {
-        return letter(file, line);
-    }
-    literal(file, line, b)
-}
-
-// The line of a form at a position.
-fn read_line(file: &[u8], at: usize, form: &[u8]) -> Line
-    ensures { λ r.
-        ⌜ seen (now (file .entry)) r ≡ advance (now (form .entry)) (seen (now (file .entry)) (started at)) ⌝ }
-{
-    let mut line = Line {
-        next: at,
-        first: 0,
-        second: 0,
-    };
-    let mut i = 0;
-    while i < form.len() {
-        line = piece(file, line, form[i]);
-        i += 1;
-    }
-    line
-}
-
-// One line after what came before: 2 where it has not its form, then 3 where its values do not fit.
-fn take_line(file: &[u8], cursor: Cursor, line: Line, fits: bool) -> Cursor
+// One line after what came before: 2 where it has not its form.
+fn take_line(file: &[u8], cursor: Cursor, line: Line) -> Cursor
     requires { ⌜ cursor .line < 1000 ⌝ }
-    ensures { λ r. ⌜ TakesLine (now (file .entry)) cursor line fits r ⌝ }
+    ensures { λ r. ⌜ TakesLine (now (file .entry)) cursor line r ⌝ }
 {
     let size = file.len();
     if cursor.at > size {
         return cursor;
     }
     if line.next > size {
-        return Cursor {
-            at: line.next,
-            line: cursor.line,
-            range: false,
-        };
+        return stopped(file, cursor.line, Refusal::Form(cursor.line));
     }
-    if fits {
-        Cursor {
-            at: line.next,
-            line: cursor.line + 1,
-            range: false,
-        }
-    } else {
-        Cursor {
-            at: nowhere(file),
-            line: cursor.line,
-            range: true,
-        }
+    let next = cursor.line + 1;
+    Cursor {
+        at: line.next,
+        line: next,
+        refusal: Refusal::Form(next),
     }
+}
+
+// A test of the line that was taken: the refusal where it does not pass.
+fn test_line(file: &[u8], cursor: Cursor, passes: bool, refusal: Refusal) -> Cursor
+    ensures { λ r. ⌜ TestsLine (now (file .entry)) cursor passes refusal r ⌝ }
+{
+    if cursor.at > file.len() {
+        return cursor;
+    }
+    if passes {
+        return cursor;
+    }
+    stopped(file, cursor.line, refusal)
 }
 
 // A line of one value.
@@ -301,10 +122,11 @@ fn read_count(file: &[u8], cursor: Cursor, form: &[u8], low: u32, high: u32) -> 
     ensures { λ r. ⌜ ReadsCount (now (file .entry)) cursor (now (form .entry)) low high r ⌝ }
 {
     let at = cursor.at;
-    let line = read_line(file, at, form);
+    let line = line_reader::read_line(file, at, form);
     let value = line.second;
-    let fits = in_range(low, high, value);
-    let next = take_line(file, cursor, line, fits);
+    let taken = take_line(file, cursor, line);
+    let fits = ranges::in_range(low, high, value);
+    let next = test_line(file, taken, fits, Refusal::Range(cursor.line));
     if fits {
         CountLine {
             cursor: next,
@@ -318,16 +140,6 @@ fn read_count(file: &[u8], cursor: Cursor, form: &[u8], low: u32, high: u32) -> 
     }
 }
 
-fn is_activity(resources: u32, resource: u32, duration: u32) -> bool
-    ensures { λ r. ⌜ r ≡ isActivity resources (record { resource = resource; duration = duration }) ⌝ }
-{
-    if resource < resources {
-        in_range(1, DURATION, duration)
-    } else {
-        false
-    }
-}
-
 fn read_activity(file: &[u8], cursor: Cursor, resources: u32) -> ActivityLine
     requires { ⌜ (cursor .line < 1000) × (resources ≤ mostResources) ⌝ }
     ensures { λ r.
@@ -335,11 +147,12 @@ fn read_activity(file: &[u8], cursor: Cursor, resources: u32) -> ActivityLine
         (record { resource = r .resource; duration = r .duration }) ⌝ }
 {
     let at = cursor.at;
-    let line = read_line(file, at, &plan::ACT_FORM);
+    let line = line_reader::read_line(file, at, &plan::ACT_FORM);
     let resource = line.first;
     let duration = line.second;
-    let fits = is_activity(resources, resource, duration);
-    let next = take_line(file, cursor, line, fits);
+    let taken = take_line(file, cursor, line);
+    let fits = ranges::is_activity(resources, resource, duration);
+    let next = test_line(file, taken, fits, Refusal::Range(cursor.line));
     if fits {
         ActivityLine {
             cursor: next,
@@ -378,27 +191,19 @@ fn read_activities(file: &[u8], cursor: Cursor, resources: u32, acts: usize) -> 
     }
 }
 
-fn is_node(acts: u32, letter: u32, number: u32) -> bool
-    ensures { λ r. ⌜ r ≡ isNode acts (nodeOf letter number) ⌝ }
-{
-    if letter == 97 {
-        number < acts
-    } else {
-        in_range(1, CHILDREN, number)
-    }
-}
-
-fn read_node(file: &[u8], cursor: Cursor, acts: u32) -> NodeLine
+fn read_ranged(file: &[u8], cursor: Cursor, acts: u32) -> NodeLine
     requires { ⌜ (cursor .line < 1000) × (acts ≤ mostActs) ⌝ }
-    ensures { λ r. ⌜ Reads (now (file .entry)) cursor (aNode acts) 1 (r .cursor) (nodeOf (r .letter) (r .number)) ⌝ }
+    ensures { λ r.
+        ⌜ Reads (now (file .entry)) cursor (rangedNode acts) 1 (r .cursor) (nodeOf (r .letter) (r .number)) ⌝ }
 {
     let at = cursor.at;
-    let line = read_line(file, at, &plan::NODE_FORM);
+    let line = line_reader::read_line(file, at, &plan::NODE_FORM);
     let letter = plan::letter_of(line.first);
     let number = line.second;
-    let fits = is_node(acts, line.first, number);
-    let next = take_line(file, cursor, line, fits);
-    if fits {
+    let taken = take_line(file, cursor, line);
+    let ranged = ranges::is_ranged(acts, line.first, number);
+    let next = test_line(file, taken, ranged, Refusal::Range(cursor.line));
+    if ranged {
         NodeLine {
             cursor: next,
             letter,
@@ -410,6 +215,22 @@ fn read_node(file: &[u8], cursor: Cursor, acts: u32) -> NodeLine
             letter,
             number: 0,
         }
+    }
+}
+
+fn read_node(file: &[u8], cursor: Cursor, acts: u32) -> NodeLine
+    requires { ⌜ (cursor .line < 1000) × (acts ≤ mostActs) ⌝ }
+    ensures { λ r. ⌜ Reads (now (file .entry)) cursor (aNode acts) 1 (r .cursor) (nodeOf (r .letter) (r .number)) ⌝ }
+{
+    let node = read_ranged(file, cursor, acts);
+    let letter = node.letter;
+    let number = node.number;
+    let passes = ranges::is_plural(letter, number);
+    let next = test_line(file, node.cursor, passes, Refusal::GroupOfOne(cursor.line));
+    NodeLine {
+        cursor: next,
+        letter,
+        number,
     }
 }
 
@@ -441,11 +262,7 @@ fn read_end(file: &[u8], cursor: Cursor) -> Cursor
     ensures { λ r. ⌜ Reads (now (file .entry)) cursor theEnd 0 r tt ⌝ }
 {
     if cursor.at < file.len() {
-        Cursor {
-            at: nowhere(file),
-            line: cursor.line,
-            range: false,
-        }
+        stopped(file, cursor.line, Refusal::Form(cursor.line))
     } else {
         cursor
     }
@@ -454,13 +271,11 @@ fn read_end(file: &[u8], cursor: Cursor) -> Cursor
 fn verdict_of(file: &[u8], cursor: Cursor) -> Verdict
     ensures { λ r. ⌜ r ≡ verdictOf (outcome (now (file .entry)) cursor (tt {0})) ⌝ }
 {
+    let refusal = cursor.refusal;
     if cursor.at <= file.len() {
-        return Verdict::Accepted;
-    }
-    if cursor.range {
-        Verdict::Refused(Refusal::Range(cursor.line))
+        Verdict::Accepted
     } else {
-        Verdict::Refused(Refusal::Form(cursor.line))
+        Verdict::Refused(refusal)
     }
 }
 
@@ -471,7 +286,7 @@ fn read_plan(file: &[u8]) -> Parsed
     let start = Cursor {
         at: 0,
         line: 1,
-        range: false,
+        refusal: Refusal::Form(1),
     };
     let edition = read_count(file, start, &plan::EDITION_FORM, 1, 1);
     let resources = read_count(file, edition.cursor, &plan::RESOURCES_FORM, 1, RESOURCES);

@@ -12,9 +12,9 @@ use lib.Seq.{length-take-le, getD-set-same, getD-set-other, getD-take}
 use Rattle.plan.specs.Limits.{mostVariants, mostNodes}
 use Rattle.plan.specs.Plan.{Node, nodeOf, nodesIn}
 use Rattle.plan.specs.Plan
-use Rattle.term.specs.Term.{Term, Forest, act, xor, cons, size, firsts, others, termOf}
+use Rattle.term.specs.Term.{Term, Forest, act, xor, cons, size, firsts, others, termOf, full}
 use Rattle.term.specs.Variants.{variantCount}
-use Rattle.term.specs.Model.{count, full, childrenOf}
+use Rattle.term.specs.Model.{count, childrenOf}
 use Rattle.term.proofs.Counting.{variantCount-count}
 use Rattle.pick.specs.Model.{onto, terms, first, rest, termsAt, termAt, Spanned, stop, Stopped, ways}
 use Rattle.pick.specs.Model.{ChildrenFrom, AlongChildren, Begun, Ended}

@@ -6,14 +6,14 @@ use mathlib.Core.Option.{Option, none, some, Option·none-ne-some, Option·some-
 use mathlib.Core.Path.{_≡_, refl, sym, ap, _∙_, subst}
 use native.Mathlib.Nat.{le-mul-of-pos-right, mul-comm}
 use native.Mathlib.Omega.{arith}
-use lib.Dec.{leb, ltb}
+use lib.Dec.{leb}
 use lib.ListN.{length, getD, length-append}
 use borrow.Author.Tests.{leb-true}
 use Rattle.plan.specs.Plan.{Node, nodeOf, nodesOf}
 use Rattle.plan.specs.Plan
 use Rattle.term.specs.Term.{Term, Forest, act, seq, pll, xor, nil, cons, size, nodes, nodesOfAll, firsts, others}
-use Rattle.term.specs.Term.{place, forest, single, termOf}
-use Rattle.term.specs.Model.{count, product, total, full, fullAll, childrenOf}
+use Rattle.term.specs.Term.{place, forest, single, termOf, full, fullAll, plural}
+use Rattle.term.specs.Model.{count, product, total, childrenOf}
 use Rattle.term.proofs.Counting.{some-variant, some-combination}
 use Rattle.pick.specs.Model.{onto, terms, Enough, first, rest, termsAt, termAt}
 
@@ -156,13 +156,13 @@ module _ (b : ℕ) where
   fair-onto (Plan.activity i) f (p, l, x) = x
   fair-onto (Plan.seq k) f (p, l, x) =
       fair-both k f
-      (fair-product (firsts k f) (and-eq-true-iff (ltb 0 (size (firsts k f))) (fullAll (firsts k f)) .0 p .1) l) x
+      (fair-product (firsts k f) (and-eq-true-iff (plural (firsts k f)) (fullAll (firsts k f)) .0 p .1) l) x
   fair-onto (Plan.pll k) f (p, l, x) =
       fair-both k f
-      (fair-product (firsts k f) (and-eq-true-iff (ltb 0 (size (firsts k f))) (fullAll (firsts k f)) .0 p .1) l) x
+      (fair-product (firsts k f) (and-eq-true-iff (plural (firsts k f)) (fullAll (firsts k f)) .0 p .1) l) x
   fair-onto (Plan.xor k) f (p, l, x) =
       fair-both k f
-      (fair-total (firsts k f) (and-eq-true-iff (ltb 0 (size (firsts k f))) (fullAll (firsts k f)) .0 p .1) l) x
+      (fair-total (firsts k f) (and-eq-true-iff (plural (firsts k f)) (fullAll (firsts k f)) .0 p .1) l) x
 
   pub fair-at : (ns : List Node) (i : ℕ) → Fair b (terms ns) → Fair b (termsAt ns i)
   unfolding terms

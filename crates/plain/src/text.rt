@@ -84,15 +84,20 @@ fn with_nodes(file: &[u8], t: Text, line: u64) -> Text {
     u
 }
 
-// An activity has its number, and a group how many children it has.
+// An activity has its number, and a group how many children it has: one is too few, and is tested last.
 fn with_node(file: &[u8], t: Text, line: u64) -> Text {
     let l = crate::line::node(file, t.at);
-    let fits = if l.letter == b'a' {
-        l.right < t.acts
-    } else {
+    let is_group = l.letter != b'a';
+    let fits = if is_group {
         (0 < l.right) & (l.right < NODES as u16)
+    } else {
+        l.right < t.acts
     };
-    with_line(t, l, fits, line)
+    let u = with_line(t, l, fits, line);
+    if (u.number == 0) & is_group & (l.right == 1) {
+        return refused(u, 10, line);
+    }
+    u
 }
 
 // The line after the last is no line: the file ends there.

@@ -55,6 +55,9 @@ abbrev pub mostNodes : ℕ
 mostNodes = 64
 
 -- The children of one group.
+abbrev pub fewestChildren : ℕ
+fewestChildren = 2
+
 abbrev pub mostChildren : ℕ
 mostChildren = 63
 
@@ -74,7 +77,7 @@ abbrev pub isNodeCount : ℕ → Bool
 isNodeCount n = between 1 mostNodes n
 
 abbrev pub isChildCount : ℕ → Bool
-isChildCount n = between 1 mostChildren n
+isChildCount n = between fewestChildren mostChildren n
 
 -- The form of each kind of line: `#` stands for a value and `@` for a node's letter.
 abbrev pub editionForm : List ℕ

@@ -58,6 +58,13 @@ isNode acts (seq k) = isChildCount k
 isNode acts (pll k) = isChildCount k
 isNode acts (xor k) = isChildCount k
 
+-- A group of a single child, which has a refusal of its own.
+abbrev pub isGroupOfOne : Node → Bool
+isGroupOfOne (activity i) = false
+isGroupOfOne (seq k) = eqb k 1
+isGroupOfOne (pll k) = eqb k 1
+isGroupOfOne (xor k) = eqb k 1
+
 abbrev pub isPlan : Plan → Bool
 isPlan p =
     isResourceCount (p .resources)

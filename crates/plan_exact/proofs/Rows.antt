@@ -8,9 +8,8 @@ use lib.ListN.{length}
 use Rattle.plan.specs.Plan.{Plan}
 use Rattle.term.specs.Term.{Term}
 use Rattle.term.specs.Variants.{variantCount}
-use Rattle.term.proofs.Reading.{full-termOf}
+use Rattle.term.proofs.Reading.{plan-full}
 use Rattle.term.proofs.Counting.{variantCount-count, some-variant}
-use Rattle.format.proofs.Plans.{plan-sound}
 use Rattle.timetable.specs.Mark.{mark}
 use Rattle.base.specs.Lists.{gather}
 use Rattle.schedule.specs.Sessions.{sessions}
@@ -39,12 +38,7 @@ allRows p t x = gather (variantCount t) (rowsOf (length (p .activities)) x)
 -- There is a variant.
 pub variants-some : (p : Plan) (t : Term) → Valid p t → 1 ≤ variantCount t
 variants-some p t valid =
-    omega (
-      arith,
-      variantCount-count t,
-      some-variant t (full-termOf (p .nodes) (length (p .activities)) t (plan-sound p (valid .ranges) .nodes)
-          (valid .term)),
-    )
+    omega (arith, variantCount-count t, some-variant t (plan-full p t (valid .ranges) (valid .term)))
 
 module _ (p : Plan) (t : Term) (valid : Valid p t) (x : ℕ → Variant) (held : HeldEach p t x) where
   abbrev N : ℕ

@@ -13,12 +13,11 @@ use Rattle.plan.specs.declared.Refusal.the-variants.{NotOneTerm, Twice, TooMany
 use Rattle.format.specs.Parse
 use Rattle.format.specs.Parse.{parse, Result}
 use Rattle.format.proofs.Format.{parse-text}
-use Rattle.format.proofs.Plans.{plan-sound}
 use Rattle.term.specs.Term.{Term, termOf}
-use Rattle.term.specs.Variants.{variantCount, twice}
+use Rattle.term.specs.Variants.{variantCount}
 use Rattle.term.specs.Clash.{clash}
 use Rattle.term.specs.Model.{count}
-use Rattle.term.proofs.Reading.{full-termOf}
+use Rattle.term.proofs.Reading.{plan-full}
 use Rattle.term.proofs.Counting.{variantCount-count}
 use Rattle.term.proofs.Twice.{twice-clash}
 use Rattle.judge.specs.Judge.{judge, judgeTerm, judgeVariants, judgeResult}
@@ -53,7 +52,7 @@ term-same : (p : Plan) (o : Option Term) → termOf (p .nodes) ≡ o → isPlan 
 term-same p none eo r = refl
 term-same p (some t) eo r =
     let n = variantCount-count t in
-    rw (twice-clash t (full-termOf (p .nodes) (length (p .activities)) t (plan-sound p r .nodes) eo), n)
+    rw (twice-clash t (plan-full p t r eo), n)
     (variants-same p t (clash t) (ltb mostVariants (count t)) n)
 
 result-same : (s : List ℕ) (o : Result) → parse s ≡ o → answerTo (judgeResult o) ≡ readResult o

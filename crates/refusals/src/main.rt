@@ -22,6 +22,10 @@ fn put_range() -> bool {
     put(b"case=duration_2001 call=read\n") && printer::put_read(&samples::duration_2001())
 }
 
+fn put_group() -> bool {
+    put(b"case=group_of_one call=read\n") && printer::put_read(&samples::group_of_one())
+}
+
 fn put_term() -> bool {
     put(b"case=child_absent call=read\n")
         && printer::put_read(&samples::child_absent())
@@ -75,6 +79,7 @@ fn main() {
     let is_written = put_length()
         && put_form()
         && put_range()
+        && put_group()
         && put_term()
         && put_variant()
         && put_cap()

@@ -83,6 +83,13 @@ pub fn duration_2001() -> [u8; 48] {
         nodes=1\nnode=a,0\n"
 }
 
+// A group with a single child, on line 6.
+pub fn group_of_one() -> [u8; 54] {
+    *b"plan=1\nres=1\nacts=1\n\
+        act=0,1\n\
+        nodes=2\nnode=s,1\nnode=a,0\n"
+}
+
 // Line 6, the only node, is absent.
 pub fn node_absent() -> [u8; 36] {
     *b"plan=1\nres=1\nacts=1\n\

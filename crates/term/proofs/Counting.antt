@@ -7,11 +7,10 @@ use native.Mathlib.Decide.{decLe}
 use native.Mathlib.Nat.{zero-mul, suc-mul, mul-zero, mul-comm, one-le-mul, le-mul-of-pos-right, min-eq-left}
 use native.Mathlib.Nat.{min-eq-right}
 use native.Mathlib.Omega.{arith}
-use lib.Dec.{ltb}
 use lib.ListN.{length, length-append, length-map}
-use Rattle.term.specs.Term.{Term, Forest, act, seq, pll, xor, nil, cons, size}
+use Rattle.term.specs.Term.{Term, Forest, act, seq, pll, xor, nil, cons, size, full, fullAll, plural}
 use Rattle.term.specs.Variants.{paired, variants, combinations, alternatives, variantCount}
-use Rattle.term.specs.Model.{count, product, total, full, fullAll}
+use Rattle.term.specs.Model.{count, product, total}
 
 length-paired : (ts : List Term) (fs : List Forest) → length (paired ts fs) ≡ length ts * length fs
 unfolding paired
@@ -73,15 +72,15 @@ mutual
 
   pub some-variant : (t : Term) → full t ≡ true → 1 ≤ count t
   some-variant (act i) h = omega arith
-  some-variant (seq f) h = some-combination f (and-eq-true-iff (ltb 0 (size f)) (fullAll f) .0 h .1)
-  some-variant (pll f) h = some-combination f (and-eq-true-iff (ltb 0 (size f)) (fullAll f) .0 h .1)
-  some-variant (xor f) h = let (n, g) = and-eq-true-iff (ltb 0 (size f)) (fullAll f) .0 h in some-alternative f n g
+  some-variant (seq f) h = some-combination f (and-eq-true-iff (plural f) (fullAll f) .0 h .1)
+  some-variant (pll f) h = some-combination f (and-eq-true-iff (plural f) (fullAll f) .0 h .1)
+  some-variant (xor f) h = let (n, g) = and-eq-true-iff (plural f) (fullAll f) .0 h in some-alternative f n g
 
   pub some-combination : (f : Forest) → fullAll f ≡ true → 1 ≤ product f
   some-combination nil h = omega arith
   some-combination (cons t f) h =
       let (p, q) = and-eq-true-iff (full t) (fullAll f) .0 h in one-le-mul (some-variant t p) (some-combination f q)
 
-  pub some-alternative : (f : Forest) → ltb 0 (size f) ≡ true → fullAll f ≡ true → 1 ≤ total f
+  pub some-alternative : (f : Forest) → plural f ≡ true → fullAll f ≡ true → 1 ≤ total f
   some-alternative nil n h = absurd (false≢true n)
   some-alternative (cons t f) n h = omega (arith, some-variant t (and-eq-true-iff (full t) (fullAll f) .0 h .0))

@@ -1,21 +1,23 @@
 -- How nodes are read as a term. A term is the only one that its nodes begin with, `termOf` finds exactly that term,
--- and groups that have children make a full term.
+-- and groups whose counts are in range make a full term.
 use Prim.Native.Nat.{ℕ, zero, suc, _≤_}
-use mathlib.Core.Bool.{Bool, true, false, _&&_, not, false≢true, and-eq-true-iff}
+use mathlib.Core.Bool.{Bool, true, false, _&&_, not, and-eq-true-iff}
 use mathlib.Core.List.{List, [], _∷_, _++_, append-assoc, append-nil, head-eq-of-cons-eq, tail-eq-of-cons-eq}
 use mathlib.Core.List.{cons≢nil}
 use mathlib.Core.Option.{Option, none, some, Option·none-ne-some, Option·some-injective}
 use mathlib.Core.Path.{_≡_, refl, sym, ap, ap₂, _∙_, subst}
 use native.Mathlib.Omega.{arith}
-use lib.Dec.{T, T-not, leb, ltb, eqb, eqb-refl}
-use borrow.Author.Tests.{leb-true, le-leb, lt-ltb}
-use Rattle.plan.specs.Limits.{isChildCount}
-use Rattle.plan.specs.Plan.{Node, letterOf, isNode}
+use lib.Dec.{T, T-not, leb, eqb, eqb-refl}
+use lib.ListN.{length}
+use borrow.Author.Tests.{leb-true, le-leb}
+use Rattle.plan.specs.Limits.{mostChildren, isResourceCount, isActCount, isNodeCount, isChildCount}
+use Rattle.plan.specs.Plan.{Node, Plan, letterOf, isActivity, isNode, isPlan}
 use Rattle.base.specs.Lists.{every}
 use Rattle.plan.specs.Plan
 use Rattle.term.specs.Term.{Term, Forest, act, seq, pll, xor, nil, cons, size, nodes, nodesOfAll, firsts}
-use Rattle.term.specs.Term.{others, group, place, forest, single, termOf}
-use Rattle.term.specs.Model.{full, fullAll, NoTerm, NoForest, childrenOf}
+use Rattle.term.specs.Term.{others, group, place, forest, single, termOf, full, fullAll, plural}
+use Rattle.term.specs.Model.{NoTerm, NoForest, childrenOf}
+use Rattle.base.proofs.Bools.{and-left, and-right}
 use Rattle.base.proofs.Every.{every-append}
 
 -- Nodes of two letters never begin one list.
@@ -211,19 +213,15 @@ no-rest k t ns h nil r n e = omega arith
 no-rest k t ns h (cons u f) r n e =
     h f r (omega arith) (unique u t (nodesOfAll f ++ r) ns (sym (append-assoc (nodes u) (nodesOfAll f) r) ∙ e) .1)
 
--- Where every group's node counts a child, so does every group.
+-- Where every group's node counts its children in range, the term is full.
 and-map : (a b c d : Bool) → (a ≡ true → c ≡ true) → (b ≡ true → d ≡ true) → a && b ≡ true → c && d ≡ true
 and-map a b c d f g e = let (p, q) = and-eq-true-iff a b .0 e in and-eq-true-iff c d .1 (f p, g q)
 
-some-child : (k : ℕ) → isChildCount k ≡ true → ltb 0 k ≡ true
-some-child zero e = absurd (false≢true e)
-some-child (suc k) e = lt-ltb 0 (suc k) (omega arith)
-
 full-group : (f : Forest) (n : ℕ) → (every (isNode n) (nodesOfAll f) ≡ true → fullAll f ≡ true)
-    → isChildCount (size f) && every (isNode n) (nodesOfAll f) ≡ true → ltb 0 (size f) && fullAll f ≡ true
+    → isChildCount (size f) && every (isNode n) (nodesOfAll f) ≡ true → plural f && fullAll f ≡ true
 full-group f n below e =
-    and-map (isChildCount (size f)) (every (isNode n) (nodesOfAll f)) (ltb 0 (size f)) (fullAll f)
-    (some-child (size f)) below e
+    and-map (isChildCount (size f)) (every (isNode n) (nodesOfAll f)) (plural f) (fullAll f)
+    (and-left (plural f) (leb (size f) mostChildren)) below e
 
 mutual
   unfolding nodes full
@@ -244,3 +242,12 @@ mutual
 pub full-termOf : (ns : List Node) (n : ℕ) (t : Term) → every (isNode n) ns ≡ true → termOf ns ≡ some t
     → full t ≡ true
 full-termOf ns n t h e = full-nodes t n (ap (every (isNode n)) (nodes-termOf ns t e) ∙ h)
+
+-- In the term of a plan every group has two children or more.
+pub plan-full : (p : Plan) (t : Term) → isPlan p ≡ true → termOf (p .nodes) ≡ some t → full t ≡ true
+plan-full p t ranges =
+    let others =
+    isResourceCount (p .resources) && isActCount (length (p .activities))
+    && every (isActivity (p .resources)) (p .activities) && isNodeCount (length (p .nodes)) in
+    let n = length (p .activities) in
+    full-termOf (p .nodes) n t (and-right others (every (isNode n) (p .nodes)) ranges)

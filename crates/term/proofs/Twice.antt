@@ -6,13 +6,12 @@ use mathlib.Core.List.{Memᴰ·append-right}
 use mathlib.Core.Logic.{_↔_}
 use mathlib.Core.Path.{_≡_, refl, sym, ap, ap₂, _∙_}
 use borrow.Author.Tests.{eqb-true, eq-eqb}
-use lib.Dec.{eqb, ltb}
+use lib.Dec.{eqb}
 use lib.ListN.{length}
-use Rattle.term.specs.Term.{Term, Forest, act, seq, pll, xor, nil, cons, size}
+use Rattle.term.specs.Term.{Term, Forest, act, seq, pll, xor, nil, cons, full, fullAll, plural}
 use Rattle.term.specs.Variants.{paired, variants, combinations, alternatives, activities, activitiesOfAll}
 use Rattle.term.specs.Variants.{member, repeats, some-of, twice}
 use Rattle.term.specs.Clash.{Repeats, share, clash, clashTogether, clashApart}
-use Rattle.term.specs.Model.{full, fullAll}
 use Rattle.term.proofs.Counting.{length-variants, length-combinations, some-variant, some-combination}
 use Rattle.term.proofs.SomeOf.{some-cong, some-append, some-map, some-swap, some-found, some-is, some-pair}
 use Rattle.term.proofs.SomeOf.{pair-cong, pair-or, pair-first, pair-second}
@@ -55,8 +54,8 @@ variants-some t h = rw (length-variants t) (some-variant t h)
 combinations-some : (f : Forest) → fullAll f ≡ true → 1 ≤ length (combinations f)
 combinations-some f h = rw (length-combinations f) (some-combination f h)
 
-abbrev full-children : (f : Forest) → ltb 0 (size f) && fullAll f ≡ true → fullAll f ≡ true
-full-children f h = and-eq-true-iff (ltb 0 (size f)) (fullAll f) .0 h .1
+abbrev full-children : (f : Forest) → plural f && fullAll f ≡ true → fullAll f ≡ true
+full-children f h = and-eq-true-iff (plural f) (fullAll f) .0 h .1
 
 mutual
   unfolding variants activities full some-of

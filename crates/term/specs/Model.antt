@@ -1,10 +1,8 @@
--- How the program goes over nodes and terms: V by sums and products, groups that have children, and nodes that begin
--- with no term. It need not be believed: V is proved to be `variantCount`.
+-- How the program goes over nodes and terms: V by sums and products, and nodes that begin with no term. It need not
+-- be believed: V is proved to be `variantCount`.
 use Prim.Native.Nat.{ℕ, _+_, _*_}
-use mathlib.Core.Bool.{Bool, true, _&&_}
 use mathlib.Core.List.{List, _++_}
 use mathlib.Core.Path.{_≡_}
-use lib.Dec.{ltb}
 use Rattle.plan.specs.Plan.{Node}
 use Rattle.plan.specs.Plan
 use Rattle.term.specs.Term.{Term, Forest, act, seq, pll, xor, nil, cons, size, nodes, nodesOfAll}
@@ -23,18 +21,6 @@ unfoldable mutual
   pub total : Forest → ℕ
   total nil = 0
   total (cons t f) = count t + total f
-
--- Every group has a child.
-unfoldable mutual
-  pub full : Term → Bool
-  full (act i) = true
-  full (seq f) = ltb 0 (size f) && fullAll f
-  full (pll f) = ltb 0 (size f) && fullAll f
-  full (xor f) = ltb 0 (size f) && fullAll f
-
-  pub fullAll : Forest → Bool
-  fullAll nil = true
-  fullAll (cons t f) = full t && fullAll f
 
 -- A node is followed by as many terms as it says.
 abbrev pub childrenOf : Node → ℕ

@@ -1,9 +1,10 @@
 -- The activity terms of document 000, Definition 1, and the nodes that write a term down in prefix order.
 use Prim.Native.Nat.{ℕ, zero, suc}
-use mathlib.Core.Bool.{true, false}
+use mathlib.Core.Bool.{Bool, true, false, _&&_}
 use mathlib.Core.List.{List, [], _∷_, _++_}
 use mathlib.Core.Option.{Option, none, some}
 use lib.Dec.{leb}
+use Rattle.plan.specs.Limits.{fewestChildren}
 use Rattle.plan.specs.Plan.{Node}
 use Rattle.plan.specs.Plan
 
@@ -20,6 +21,21 @@ mutual
 unfoldable pub size : Forest → ℕ
 size nil = 0
 size (cons t f) = suc (size f)
+
+-- Every group has two children or more.
+abbrev pub plural : Forest → Bool
+plural f = leb fewestChildren (size f)
+
+unfoldable mutual
+  pub full : Term → Bool
+  full (act i) = true
+  full (seq f) = plural f && fullAll f
+  full (pll f) = plural f && fullAll f
+  full (xor f) = plural f && fullAll f
+
+  pub fullAll : Forest → Bool
+  fullAll nil = true
+  fullAll (cons t f) = full t && fullAll f
 
 -- The nodes of a term: a group's node says how many children follow.
 unfoldable mutual

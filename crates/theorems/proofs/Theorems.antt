@@ -16,17 +16,20 @@ use Rattle.plan.specs.declared.Refusal.{Refusal}
 use Rattle.plan.specs.declared.Refusal.the-variants.{OverCap}
 use Rattle.format.specs.Text.{text}
 use Rattle.format.proofs.Longest.{longestPlan}
-use Rattle.term.specs.Term.{Term, termOf}
+use Rattle.term.specs.Term.{Term, full, termOf}
 use Rattle.term.specs.Valid.{Valid}
-use Rattle.term.specs.Variants.{variants, activities, twice}
+use Rattle.term.specs.Variants.{variants, variantCount, activities, twice}
 use Rattle.term.specs.Clash.{clash, Repeats}
 use Rattle.term.specs.Reduced.{Reduced}
-use Rattle.term.proofs.Reading.{full-termOf}
+use Rattle.term.proofs.Reading.{full-termOf, plan-full}
 use Rattle.term.proofs.Reduced.{variants-reduced}
 use Rattle.term.proofs.Twice.{twice-clash, twice-means}
 use Rattle.variant.specs.Pairs.{pairs, pairCount}
 use Rattle.variant.specs.Project.{variantAt}
 use Rattle.variant.specs.Timetable.{isSession, timetableOf}
+use Rattle.variant.specs.Written.{dissolved}
+use Rattle.variant.proofs.Dissolve.{dissolved-full}
+use Rattle.variant.proofs.RoundTrip.{variant-full}
 use Rattle.judge.specs.Judge.{Verdict, accepts, judge}
 use Rattle.judge.proofs.Accepts.{accepted-valid, valid-accepted, accepted-short, longestTerm, longest-accepted}
 use Rattle.write.specs.Answer.{writeOf}
@@ -133,6 +136,16 @@ pub longest-file : ((s : List ℕ) (p : Plan) (t : Term) → judge s ≡ accepts
     × ((s : List ℕ) × (p : Plan) × (t : Term) × (judge s ≡ accepts p t) × (length s ≡ longest))
 longest-file =
     (accepted-short, (text longestPlan, longestPlan, longestTerm, longest-accepted .0, longest-accepted .1))
+
+-- In an accepted plan every group has two children or more. In any such term neither a pick at an x nor rules (3) and
+-- (5) make a group of one, so that no written variant has one.
+pub groups-kept : ((p : Plan) (t : Term) → Valid p t → full t ≡ true)
+    × ((t : Term) (v : ℕ) → v < variantCount t → full t ≡ true
+    → (full (variantAt t v) ≡ true) × (full (dissolved (variantAt t v)) ≡ true))
+groups-kept = (
+  λ p t valid. plan-full p t (valid .ranges) (valid .term),
+  λ t v below e. let picked = variant-full t v below e in (picked, dissolved-full (variantAt t v) picked),
+)
 
 -- "Twice" says that some variant has an activity at two places, which is so exactly if two of its nodes meet first at
 -- an s or p.

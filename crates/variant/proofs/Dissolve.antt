@@ -1,19 +1,20 @@
--- Rules (3) and (5) keep what matters: the activities in their order, the precedence, no x, a child in every group,
--- and the nodes become no more. What they leave has no s in an s and no p in a p, and they leave that as it is.
+-- Rules (3) and (5) keep what matters: the activities in their order, the precedence, no x, two children or more in
+-- every group, and the nodes become no more. What they leave has no s in an s and no p in a p, and they leave that as
+-- it is.
 use Prim.Native.Nat.{ℕ, _+_, _≤_, _<_}
 use mathlib.Core.Bool.{Bool, true, false, not, _&&_, _||_, false≢true, and-eq-true-iff, and-assoc, or-assoc}
 use mathlib.Core.List.{List, [], _∷_, _++_, map, append-assoc}
 use mathlib.Core.Path.{_≡_, refl, sym, ap, ap₂, _∙_}
 use native.Mathlib.Omega.{arith}
-use borrow.Author.Tests.{ltb-true, lt-ltb}
-use lib.Dec.{ltb}
+use borrow.Author.Tests.{leb-true, le-leb}
 use lib.ListN.{length, getD, length-append}
+use Rattle.plan.specs.Limits.{fewestChildren}
 use Rattle.plan.specs.Plan.{Node}
 use Rattle.base.proofs.Bools.{both}
-use Rattle.term.specs.Term.{Term, Forest, act, seq, pll, xor, nil, cons, size, nodes, nodesOfAll}
+use Rattle.term.specs.Term.{Term, Forest, act, seq, pll, xor, nil, cons, size, nodes, nodesOfAll, full, fullAll}
+use Rattle.term.specs.Term.{plural}
 use Rattle.term.specs.Variants.{activities, activitiesOfAll, member, variants, combinations, paired, variantCount}
 use Rattle.term.specs.Reduced.{xorFree, xorFreeAll}
-use Rattle.term.specs.Model.{full, fullAll}
 use Rattle.term.proofs.Twice.{member-append}
 use Rattle.variant.specs.Precedence.{precedes, withinOne}
 use Rattle.variant.specs.Project.{variantAt}
@@ -225,38 +226,38 @@ mutual
   dissolvedIn-xorFree (cons t f) put p =
       xorFree-put (p (dissolved t) (dissolvedIn put f)) ∙ ap₂ _&&_ (dissolved-xorFree t) (dissolvedIn-xorFree f put p)
 
--- Every group has a child still.
+-- No group of one is made: a group keeps as many children or gets more.
 full-joined : (f g : Forest) → fullAll (joined f g) ≡ fullAll f && fullAll g
 unfolding joined full
 full-joined nil g = refl
 full-joined (cons t f) g =
     ap (λ (b : Bool). full t && b) (full-joined f g) ∙ sym (and-assoc (full t) (fullAll f) (fullAll g))
 
-size-joined : (f g : Forest) → size f ≤ size (joined f g)
+size-joined : (f g : Forest) → size (joined f g) ≡ size f + size g
 unfolding joined size
 size-joined nil g = omega arith
 size-joined (cons t f) g = omega (arith, size-joined f g)
 
-opened-full : (f g : Forest) → ltb 0 (size f) && fullAll f ≡ true → fullAll g ≡ true
-    → (0 < size (joined f g)) × (fullAll (joined f g) ≡ true)
+opened-full : (f g : Forest) → plural f && fullAll f ≡ true → fullAll g ≡ true
+    → (size g < size (joined f g)) × (fullAll (joined f g) ≡ true)
 opened-full f g e h =
-    let (s, a) = and-eq-true-iff (ltb 0 (size f)) (fullAll f) .0 e in
-    (omega (arith, ltb-true 0 (size f) s, size-joined f g), full-joined f g ∙ both a h)
+    let (s, a) = and-eq-true-iff (plural f) (fullAll f) .0 e in
+    (omega (arith, leb-true fewestChildren (size f) s, size-joined f g), full-joined f g ∙ both a h)
 
 full-put : {t : Term} {g h : Forest} → Put t g h → full t ≡ true → fullAll g ≡ true
-    → (0 < size h) × (fullAll h ≡ true)
+    → (size g < size h) × (fullAll h ≡ true)
 unfolding full size
 full-put (stays {t} {g}) e h = (omega arith, both e h)
 full-put (opens-seq {f} {g}) e h = opened-full f g e h
 full-put (opens-pll {f} {g}) e h = opened-full f g e h
 
-group-full : (f h : Forest) → (fullAll f ≡ true → (0 < size f → 0 < size h) × (fullAll h ≡ true))
-    → ltb 0 (size f) && fullAll f ≡ true
-    → ltb 0 (size h) && fullAll h ≡ true
+group-full : (f h : Forest) → (fullAll f ≡ true → (size f ≤ size h) × (fullAll h ≡ true))
+    → plural f && fullAll f ≡ true
+    → plural h && fullAll h ≡ true
 group-full f h below e =
-    let (s, a) = and-eq-true-iff (ltb 0 (size f)) (fullAll f) .0 e in
-    let (s′, a′) = below a in
-    both (lt-ltb 0 (size h) (s′ (ltb-true 0 (size f) s))) a′
+    let (s, a) = and-eq-true-iff (plural f) (fullAll f) .0 e in
+    let (more, all) = below a in
+    both (le-leb fewestChildren (size h) (omega (arith, leb-true fewestChildren (size f) s))) all
 
 mutual
   unfolding dissolved full size
@@ -268,13 +269,13 @@ mutual
   dissolved-full (xor f) e = group-full f (dissolvedIn cons f) (λ h. dissolvedIn-full f cons in-xor h) e
 
   dissolvedIn-full : (f : Forest) (put : Term → Forest → Forest) → Puts put → fullAll f ≡ true
-      → (0 < size f → 0 < size (dissolvedIn put f)) × (fullAll (dissolvedIn put f) ≡ true)
-  dissolvedIn-full nil put p e = (λ s. s, e)
+      → (size f ≤ size (dissolvedIn put f)) × (fullAll (dissolvedIn put f) ≡ true)
+  dissolvedIn-full nil put p e = (omega arith, e)
   dissolvedIn-full (cons t f) put p e =
       let (a, b) = and-eq-true-iff (full t) (fullAll f) .0 e in
-      let (s, h) =
-      full-put (p (dissolved t) (dissolvedIn put f)) (dissolved-full t a) (dissolvedIn-full f put p b .1) in
-      (λ n. s, h)
+      let (kept, below) = dissolvedIn-full f put p b in
+      let (more, all) = full-put (p (dissolved t) (dissolvedIn put f)) (dissolved-full t a) below in
+      (omega arith, all)
 
 -- No s stands in an s and no p in a p.
 abbrev pub isSeq : Term → Bool

@@ -4,7 +4,7 @@ use mathlib.Core.Bool.{true, false, _&&_, false≢true, and-eq-true-iff}
 use mathlib.Core.List.{List}
 use mathlib.Core.Path.{_≡_, refl, sym, _∙_}
 use native.Mathlib.Omega.{arith}
-use borrow.Author.Tests.{ltb-true, lt-ltb, eq-eqb, eqb-true}
+use borrow.Author.Tests.{ltb-true, lt-ltb, le-leb, eq-eqb, eqb-true}
 use lib.Dec.{ltb, eqb}
 use lib.ListN.{length, length-append}
 use Rattle.plan.specs.Limits.{mostNodes, mostChildren, isChildCount}
@@ -12,10 +12,9 @@ use Rattle.plan.specs.Plan.{isNode}
 use Rattle.base.specs.Lists.{every}
 use Rattle.base.proofs.Bools.{both, and-left, and-right}
 use Rattle.base.proofs.Every.{every-append}
-use Rattle.format.proofs.Tests.{facts-between}
-use Rattle.term.specs.Term.{Term, Forest, act, seq, pll, xor, nil, cons, size, nodes, nodesOfAll}
+use Rattle.term.specs.Term.{Term, Forest, act, seq, pll, xor, nil, cons, size, nodes, nodesOfAll, full, fullAll}
+use Rattle.term.specs.Term.{plural}
 use Rattle.term.specs.Variants.{activities, activitiesOfAll, member}
-use Rattle.term.specs.Model.{full, fullAll}
 use Rattle.variant.proofs.Members.{or-elim, or-left, member-left, member-right, member-either}
 
 -- The activities of nodes in range.
@@ -59,11 +58,11 @@ size-nodes nil = omega arith
 size-nodes (cons t f) = omega (arith, size-nodes f, nodes-some t, length-append (nodes t) (nodesOfAll f))
 
 group-fits : (f : Forest) (n : ℕ) → (fullAll f ≡ true → every (isNode n) (nodesOfAll f) ≡ true)
-    → ltb 0 (size f) && fullAll f ≡ true → length (nodesOfAll f) ≤ mostChildren
+    → plural f && fullAll f ≡ true → length (nodesOfAll f) ≤ mostChildren
     → isChildCount (size f) && every (isNode n) (nodesOfAll f) ≡ true
 group-fits f n below e l =
-    let (s, a) = and-eq-true-iff (ltb 0 (size f)) (fullAll f) .0 e in
-    both (facts-between 1 mostChildren (size f) (ltb-true 0 (size f) s) (omega (arith, size-nodes f))) (below a)
+    let (s, a) = and-eq-true-iff (plural f) (fullAll f) .0 e in
+    both (both s (le-leb (size f) mostChildren (omega (arith, size-nodes f)))) (below a)
 
 mutual
   unfolding nodes full activities member

@@ -7,13 +7,15 @@ use mathlib.Core.Path.{_≡_, refl, ap, _∙_}
 use native.Mathlib.Nat.{mod-lt, div-lt-iff-lt-mul}
 use native.Mathlib.Omega.{arith}
 use borrow.Author.Tests.{ltb-true, ltb-false}
-use lib.Dec.{ltb}
+use lib.Dec.{leb, ltb}
 use lib.ListN.{length, length-append}
+use Rattle.plan.specs.Limits.{fewestChildren}
 use Rattle.base.proofs.Bools.{both, and-left, and-right}
-use Rattle.term.specs.Term.{Term, Forest, act, seq, pll, xor, nil, cons, size, nodes, nodesOfAll}
+use Rattle.term.specs.Term.{Term, Forest, act, seq, pll, xor, nil, cons, size, nodes, nodesOfAll, full, fullAll}
+use Rattle.term.specs.Term.{plural}
 use Rattle.term.specs.Variants.{activities, activitiesOfAll, member}
 use Rattle.term.specs.Reduced.{xorFree, xorFreeAll}
-use Rattle.term.specs.Model.{count, product, total, full, fullAll}
+use Rattle.term.specs.Model.{count, product, total}
 use Rattle.variant.proofs.Members.{member-left, member-right, member-either}
 use Rattle.variant.specs.Pick.{pick, pickEach, pickOne}
 use Rattle.variant.proofs.Pick.{pos-right, choice}
@@ -135,14 +137,14 @@ xorFree-kept =
 pub pick-xorFree : (t : Term) (v : ℕ) → v < count t → xorFree (pick t v) ≡ true
 pick-xorFree t v h = inherited xorFree-kept t v h
 
--- Every group has a child.
+-- Every group has two children or more.
 abbrev FullAs : Forest → Forest → Type 0
 FullAs f g = (size g ≡ size f) × (fullAll f ≡ true → fullAll g ≡ true)
 
-group-full : (f g : Forest) → FullAs f g → ltb 0 (size f) && fullAll f ≡ true → ltb 0 (size g) && fullAll g ≡ true
+group-full : (f g : Forest) → FullAs f g → plural f && fullAll f ≡ true → plural g && fullAll g ≡ true
 group-full f g (s, below) e =
-    let (some, all) = and-eq-true-iff (ltb 0 (size f)) (fullAll f) .0 e in
-    both (ap (ltb 0) s ∙ some) (below all)
+    let (some, all) = and-eq-true-iff (plural f) (fullAll f) .0 e in
+    both (ap (leb fewestChildren) s ∙ some) (below all)
 
 full-kept :
     Inherited
@@ -155,7 +157,7 @@ full-kept =
       of-act = λ i e. e;
       of-seq = group-full;
       of-pll = group-full;
-      of-xor = λ f u below e. below (and-right (ltb 0 (size f)) (fullAll f) e);
+      of-xor = λ f u below e. below (and-right (plural f) (fullAll f) e);
       of-nil = (refl, λ e. e);
       of-cons = λ t u f g p q. (
         ap suc (q .0),

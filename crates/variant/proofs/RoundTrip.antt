@@ -11,17 +11,16 @@ use lib.ListN.{length, getD}
 use Rattle.plan.specs.Limits.{mostNodes}
 use Rattle.plan.specs.Plan.{Plan, isNode, isPlan}
 use Rattle.base.specs.Lists.{every}
-use Rattle.format.specs.Parse.{holds}
 use Rattle.format.specs.Text.{text}
 use Rattle.format.proofs.Plans.{Sound, plan-sound, sound-plan}
 use Rattle.format.proofs.Tests.{between-facts, facts-between}
-use Rattle.term.specs.Term.{Term, act, nodes, termOf}
+use Rattle.term.specs.Term.{Term, act, nodes, termOf, full}
 use Rattle.term.specs.Variants.{variants, variantCount, activities, member, repeats, some-of, twice}
 use Rattle.term.specs.Reduced.{xorFree}
 use Rattle.term.specs.Valid.{HasVariant}
-use Rattle.term.specs.Model.{count, full}
+use Rattle.term.specs.Model.{count}
 use Rattle.term.proofs.Counting.{variantCount-count}
-use Rattle.term.proofs.Reading.{termOf-nodes, nodes-termOf, full-termOf}
+use Rattle.term.proofs.Reading.{termOf-nodes, nodes-termOf, plan-full}
 use Rattle.variant.specs.Project.{activityAt, variantAt, projectOf}
 use Rattle.variant.specs.Written.{dissolved, variantPlan, written}
 use Rattle.variant.proofs.Members.{or-none}
@@ -65,6 +64,12 @@ pub reads-dissolved : (p : Plan) (w : Term) → termOf (variantPlan p w .nodes) 
 unfolding variantPlan
 reads-dissolved p w = termOf-nodes (dissolved w)
 
+-- A variant has no group of one if the term has none.
+pub variant-full : (t : Term) (v : ℕ) → v < variantCount t → full t ≡ true → full (variantAt t v) ≡ true
+variant-full t v below e =
+    let counted : v < count t = omega (arith, variantCount-count t) in
+    subst (λ w. full w ≡ true) (pick-is t v counted) (pick-full t v counted e)
+
 -- A test that fails on every member fails on each.
 none-of {ℓ} : {A : Type ℓ} (q : A → Bool) (xs : List A) (n : ℕ) (d : A) → some-of q xs ≡ false → n < length xs
     → q (getD xs n d) ≡ false
@@ -86,11 +91,6 @@ module _ (p : Plan) (t : Term) (v : ℕ) (c : HasVariant p t v) where
 
   pub variant-xorFree : xorFree (variantAt t v) ≡ true
   variant-xorFree = of-variant (λ w. xorFree w ≡ true) (pick-xorFree t v counted)
-
-  pub variant-full : full (variantAt t v) ≡ true
-  variant-full =
-      of-variant (λ w. full w ≡ true)
-      (pick-full t v counted (full-termOf (p .nodes) (length (p .activities)) t (sound .nodes) (c .valid .term)))
 
   pub variant-once : repeats (activities (variantAt t v)) ≡ false
   unfolding twice variantCount
@@ -118,6 +118,7 @@ module _ (p : Plan) (t : Term) (v : ℕ) (c : HasVariant p t v) where
   variant-plan =
       let w = variantAt t v in
       let u = dissolved w in
+      let full-term : full t ≡ true = plan-full p t (c .valid .ranges) (c .valid .term) in
       let below : (i : ℕ) → member i (activities u) ≡ true → i < length (p .activities) =
       λ i m. variant-below i (ap (member i) (sym (dissolved-activities w)) ∙ m) in
       sound-plan (variantPlan p w) (record {
@@ -125,7 +126,8 @@ module _ (p : Plan) (t : Term) (v : ℕ) (c : HasVariant p t v) where
         acts = sound .acts;
         activities = sound .activities;
         nodeCount = facts-between 1 mostNodes (length (nodes u)) (nodes-some u) few-nodes;
-        nodes = nodes-fit u (length (p .activities)) (dissolved-full w variant-full) below few-nodes;
+        nodes = nodes-fit u (length (p .activities)) (dissolved-full w (variant-full t v (c .below) full-term)) below
+            few-nodes;
       })
 
   -- and it has one variant, with no activity twice: itself.

@@ -8,6 +8,7 @@
  *   1       0                   length 0 or over 959
  *   2       line, from 1        line absent, ill formed, or bytes past the last line
  *   3       line                a value out of range
+ *   10      line                a group of one child
  *   4       0                   the nodes are not one whole term
  *   5       0                   some variant has an activity twice
  *   6       0                   more than 4096 variants

@@ -1,4 +1,4 @@
-//! The plan file: its text read, with refusals 1 to 6, and written.
+//! The plan file: its text read, with refusals 1 to 6 and 10, and written.
 
 use crate::refusal;
 use crate::term::{Kind, Term};
@@ -87,7 +87,11 @@ impl<'a> Lines<'a> {
         }
         let value = self.value(number)?;
         let range = if letter == "a" { 0..=activities - 1 } else { 1..=63 };
-        Ok((letter.chars().next().unwrap(), self.in_range(value, range)?))
+        let value = self.in_range(value, range)?;
+        if letter != "a" && value == 1 {
+            return Err(refusal(10, self.taken));
+        }
+        Ok((letter.chars().next().unwrap(), value))
     }
 
     fn end(&mut self) -> Result<(), Refusal> {

@@ -101,16 +101,36 @@ fn range() {
 }
 
 #[test]
+fn groups_of_one() {
+    for (part, by, line) in [
+        ("node=s,2", "node=s,1", 7),
+        ("node=s,2", "node=p,1", 7),
+        ("node=s,2", "node=x,1", 7),
+        ("nodes=3/node=s,2/node=a,0", "nodes=4/node=s,2/node=a,0/node=x,1", 9),
+        // whatever is wrong with the term or with a later line
+        ("nodes=3/node=s,2/node=a,0/node=a,1", "nodes=1/node=s,1", 7),
+        ("node=s,2/node=a,0/node=a,1", "node=s,1/node=a,2/node=b,1", 7),
+    ] {
+        assert_eq!(with(part, by), Err(refusal(10, line)), "{by:?} for {part:?}");
+    }
+    // an earlier line goes first
+    assert_eq!(with("act=0,1/act=1,2000/nodes=3/node=s,2", "act=0,01/act=1,2000/nodes=3/node=s,1"), Err(refusal(2, 4)));
+    assert_eq!(with("act=1,2000/nodes=3/node=s,2", "act=1,2001/nodes=3/node=s,1"), Err(refusal(3, 5)));
+    // activity 1 is no group
+    assert_eq!(with("nodes=3/node=s,2/node=a,0/node=a,1", "nodes=1/node=a,1"), Ok(1));
+}
+
+#[test]
 fn terms() {
-    for by in ["node=s,1", "node=s,3", "node=a,0", "node=p,63"] {
+    for by in ["node=s,3", "node=a,0", "node=p,63"] {
         assert_eq!(with("node=s,2", by), Err(refusal(4, 0)), "{by}");
     }
-    assert_eq!(with("nodes=3/node=s,2/node=a,0/node=a,1", "nodes=1/node=s,1"), Err(refusal(4, 0)));
+    assert_eq!(with("nodes=3/node=s,2/node=a,0/node=a,1", "nodes=1/node=s,2"), Err(refusal(4, 0)));
     assert_eq!(with("node=a,1", "node=a,0"), Err(refusal(5, 0)));
     assert_eq!(with("node=s,2/node=a,0/node=a,1", "node=x,2/node=a,0/node=a,0"), Ok(2));
-    // 64 nodes: 63 groups of one
-    let groups = "/node=x,1".repeat(63) + "/node=a,1";
-    assert_eq!(with("nodes=3/node=s,2/node=a,0/node=a,1", &format!("nodes=64{groups}")), Ok(1));
+    // 64 nodes: 31 groups, each in the one before it
+    let groups = "/node=x,3/node=a,0/node=a,0".to_string() + &"/node=x,2/node=a,0".repeat(30) + "/node=a,1";
+    assert_eq!(with("nodes=3/node=s,2/node=a,0/node=a,1", &format!("nodes=64{groups}")), Ok(33));
     // an activity twice comes before too many variants
     let choices = "/node=x,4/node=a,0/node=a,1/node=a,0/node=a,1".repeat(12);
     let twice = format!("nodes=61/node=p,12{choices}");

@@ -10,7 +10,7 @@ fn term(random: &mut Random, depth: u64, activities: u64) -> Term {
         return Term::Activity(random.below(activities) as usize);
     }
     let kind = random.pick(&[Kind::Seq, Kind::Pll, Kind::Xor]);
-    let children = random.between(1, 3);
+    let children = random.between(2, 3);
     Term::Group(kind, (0..children).map(|_| term(random, depth - 1, activities)).collect())
 }
 
@@ -74,7 +74,7 @@ fn written_variants_read_back() {
     let activities = vec![Activity { resource: 2, duration: 2000 }; 24];
     let mut seen = 0;
     for _ in 0..5000 {
-        let Ok(plan) = parse(&text(3, &activities, &term(&mut random, 4, 24))) else {
+        let Ok(plan) = parse(&text(3, &activities, &term(&mut random, 3, 24))) else {
             continue;
         };
         for number in 0..plan.term.variant_count().min(20) {

@@ -16,7 +16,7 @@ use Rattle.term.specs.Variants.{variantCount, twice}
 use Rattle.pick.specs.Model.{stop}
 use Rattle.pick.proofs.Spanning.{first-counts, not-stopped}
 use Rattle.judge.proofs.Judging.{says-refusal, says-plan, not-whole, one-term, is-twice, too-many, is-accepted}
-use Rattle.judge.proofs.Judging.{plan-full}
+use Rattle.term.proofs.Reading.{plan-full}
 use Rattle.judge.proofs.Ranges.{nodes-ranged}
 use Rattle.judge.proofs.judge_term.Statement.{statement}
 use Rattle.judge.proofs.judge_term.Tie as tie
@@ -99,7 +99,7 @@ returns-4 c =
       ranged = r;
       valid = record { ranges = r .ranges; term = reads; once = once b; few = few };
       counted = omega (arith, counted b, few);
-      spanned = not-stopped (b .spans-of .ensures) t reads (plan-full r t reads) few;
+      spanned = not-stopped (b .spans-of .ensures) t reads (plan-full (planOf (tables s)) t (r .ranges) reads) few;
     })
 
 pub judge-term-spec : {M : Type 1} → statement M

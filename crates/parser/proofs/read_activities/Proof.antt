@@ -4,7 +4,7 @@ use mathlib.Core.Path.{refl}
 use native.Mathlib.Omega.{arith}
 use Rattle.plan.specs.Limits.{mostActs}
 use Rattle.format.proofs.Columns.{activities}
-use Rattle.parser.specs.Steps.{anActivity}
+use Rattle.format.specs.Parse.{anActivity}
 use Rattle.parser.proofs.Loops.{ReadSoFar, none-read, one-read, all-read}
 use Rattle.parser.proofs.read_activities.Statement.{statement}
 use Rattle.parser.proofs.read_activities.Tie as tie

@@ -11,39 +11,44 @@ use Rattle.parser.proofs.read_count.Tie as tie
 read-line-requires : tie.Need-read-line-requires
 read-line-requires c κs = search needs
 
+take-line-requires : tie.Need-take-line-requires
+take-line-requires c κs = search needs
+
 in-range-requires : tie.Need-in-range-requires
 in-range-requires c κs = search needs
 
-take-line-requires : tie.Need-take-line-requires
-take-line-requires c κs = search needs
+test-line-requires : tie.Need-test-line-requires
+test-line-requires c κs = search needs
 
 returns : tie.Need-returns
 returns c =
     let test = c .before .before in
-    let line = test .before .read-line in
-    let start = test .before .before .before .before in
+    let taken = test .before in
+    let line = taken .before .read-line in
+    let start = taken .before .before .before .before in
     let low = start .args .low in
     let high = start .args .high in
     record {
       reads =
-          count-reads (c .before .take-line .ensures) (start .args .form .now) (line .ensures) low high
-          (start .pre .1)
-          (test .in-range .ensures) (λ t. refl);
+          count-reads (taken .take-line .ensures) (c .before .test-line .ensures) (start .args .form .now)
+          (line .ensures) low high (start .pre .1) (test .in-range .ensures) (λ t. refl);
       most = between-facts low high (line .result .second) (sym (test .in-range .ensures) ∙ c .if1 .taken) .1;
     }
 
 returns-2 : tie.Need-returns-2
 returns-2 c =
     let test = c .before .before in
-    let start = test .before .before .before .before in
+    let taken = test .before in
+    let start = taken .before .before .before .before in
     record {
       reads =
-          count-reads (c .before .take-line .ensures) (start .args .form .now) (test .before .read-line .ensures)
-          (start .args .low) (start .args .high) (start .pre .1) (test .in-range .ensures)
-          (λ t. true-not-false t (c .if1 .left));
+          count-reads (taken .take-line .ensures) (c .before .test-line .ensures) (start .args .form .now)
+          (taken .before .read-line .ensures) (start .args .low) (start .args .high) (start .pre .1)
+          (test .in-range .ensures) (λ t. true-not-false t (c .if1 .left));
       most = omega arith;
     }
 
 pub read-count-spec : {M : Type 1} → statement M
 read-count-spec =
-    tie.close (tie.spec read-line-requires in-range-requires take-line-requires returns returns-2)
+    tie.close
+    (tie.spec read-line-requires take-line-requires in-range-requires test-line-requires returns returns-2)

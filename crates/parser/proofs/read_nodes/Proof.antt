@@ -4,7 +4,7 @@ use mathlib.Core.Path.{refl}
 use native.Mathlib.Omega.{arith}
 use Rattle.plan.specs.Limits.{mostNodes}
 use Rattle.format.proofs.Columns.{nodes as columns}
-use Rattle.parser.specs.Steps.{aNode}
+use Rattle.format.specs.Parse.{aNode}
 use Rattle.parser.proofs.Loops.{ReadSoFar, none-read, one-read, all-read}
 use Rattle.parser.proofs.read_nodes.Statement.{statement}
 use Rattle.parser.proofs.read_nodes.Tie as tie

@@ -65,8 +65,8 @@ read-end-requires c κs = search needs
 abbrev resources-line : tie.After-read-end → tie.After-read-count2
 resources-line c = c .before .before .before .before .before .before .before .before .before
 
-cast-t30 : tie.Need-cast-t30
-cast-t30 c = omega (arith, resources-line (c .before .before .before .before .before) .read-count2 .ensures .most)
+cast-t31 : tie.Need-cast-t31
+cast-t31 c = omega (arith, resources-line (c .before .before .before .before .before) .read-count2 .ensures .most)
 
 verdict-of-requires : tie.Need-verdict-of-requires
 verdict-of-requires c κs = search needs
@@ -103,6 +103,6 @@ read-plan-spec =
     cast-size
     read-nodes-requires
     read-end-requires
-    cast-t30
+    cast-t31
     verdict-of-requires
     returns)

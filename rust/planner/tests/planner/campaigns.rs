@@ -77,6 +77,18 @@ fn durations() {
 }
 
 #[test]
+fn groups_of_one() {
+    let of = |node: &str| variants(&format!("plan=1/res=1/acts=2/act=0,1/act=0,1/nodes=2/node={node}/node=a,1"));
+    for letter in ["s", "p", "x"] {
+        assert_eq!(of(&format!("{letter},1")), Err(refusal(10, 7)));
+        assert_eq!(of(&format!("{letter},0")), Err(refusal(3, 7)));
+        assert_eq!(of(&format!("{letter},64")), Err(refusal(3, 7)));
+    }
+    assert_eq!(of("a,1"), Err(refusal(4, 0)));
+    assert_eq!(variants("plan=1/res=1/acts=2/act=0,1/act=0,1/nodes=1/node=a,1"), Ok(1));
+}
+
+#[test]
 fn activity_0_twice() {
     let x = "plan=1/res=1/acts=1/act=0,1/nodes=3/node=x,2/node=a,0/node=a,0";
     assert_eq!(variants(x), Ok(2));

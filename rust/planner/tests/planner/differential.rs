@@ -59,7 +59,7 @@ fn differential() {
         println!("{n:>8} {name}");
     }
     if plans >= 100_000 {
-        assert!((1..=6).all(|number| all[&format!("refused {number}")] > plans / 200));
+        assert!([1, 2, 3, 4, 5, 6, 10].iter().all(|number| all[&format!("refused {number}")] > plans / 200));
         assert!(all["accepted, pairs listed"] > plans / 4);
         assert!(all["accepted, pairs left open"] < plans / 100);
         assert!(all["accepted, 959 bytes"] > 100 && all["accepted, pairs listed, 4096 variants"] > 10);

@@ -16,6 +16,8 @@ enum Fault {
     ReadRefusesAll,
     ReadTakesMissingNewline,
     ReadTakesLeadingZero,
+    ReadTakesGroupOfOne,
+    GroupOfOneAsRange,
     FigureOffByOne,
     VariantsReversed,
     WriteKeepsNested,
@@ -102,6 +104,19 @@ fn earliest_rows(plan: &Plan) -> Vec<Vec<u16>> {
     rows
 }
 
+/// The file without the node on a line.
+fn without_node(file: &[u8], line: u64) -> Vec<u8> {
+    let text = String::from_utf8_lossy(file);
+    let mut lines: Vec<String> = text.split_inclusive('\n').map(str::to_string).collect();
+    lines.remove(line as usize - 1);
+    for line in &mut lines {
+        if let Some(count) = line.strip_prefix("nodes=") {
+            *line = format!("nodes={}\n", count.trim_end().parse::<u64>().unwrap() - 1);
+        }
+    }
+    lines.concat().into_bytes()
+}
+
 impl Planner for Faulty {
     fn read(&self, file: &[u8]) -> Answer<Size> {
         if self.has(Fault::ReadRefusesAll) {
@@ -114,7 +129,16 @@ impl Planner for Faulty {
             let text = String::from_utf8_lossy(file).replace(",0", ",").replace(",\n", ",0\n").replace(",,", ",0,");
             return Reference.read(file).or(Reference.read(text.as_bytes()).or(Reference.read(file)));
         }
-        Reference.read(file).map_err(|refused| Refusal {
+        let answer = Reference.read(file);
+        if let Err(Refusal { number: 10, figure }) = answer {
+            if self.has(Fault::ReadTakesGroupOfOne) {
+                return self.read(&without_node(file, figure)).map(|size| Size { nodes: size.nodes + 1, ..size });
+            }
+            if self.has(Fault::GroupOfOneAsRange) {
+                return Err(refusal(3, figure));
+            }
+        }
+        answer.map_err(|refused| Refusal {
             figure: refused.figure - u64::from(self.has(Fault::FigureOffByOne) && refused.figure > 4),
             ..refused
         })
@@ -225,6 +249,8 @@ fn each_fault_is_found_out() {
         Fault::ReadRefusesAll,
         Fault::ReadTakesMissingNewline,
         Fault::ReadTakesLeadingZero,
+        Fault::ReadTakesGroupOfOne,
+        Fault::GroupOfOneAsRange,
         Fault::FigureOffByOne,
         Fault::VariantsReversed,
         Fault::WriteKeepsNested,

@@ -32,7 +32,7 @@ pub fn plan_file(random: &mut Random) -> (&'static str, Vec<u8>) {
         0..=29 => ("tiny", tiny(random).text()),
         30..=49 => ("middling", middling(random).text()),
         50..=59 => ("large", large(random).text()),
-        60..=63 => ("groups of one", nested(random).text()),
+        60..=63 => ("groups of one", groups_of_one(random).text()),
         64..=65 => ("many variants", many_variants(random).text()),
         66..=69 => ("too many variants", too_many_variants(random).text()),
         70..=73 => ("longest", longest(random)),
@@ -63,12 +63,12 @@ fn shuffled(random: &mut Random, count: u64) -> Vec<u64> {
 
 /// The nodes of a term that has no activity twice in a variant, no more than `room`.
 fn term(random: &mut Random, activities: &[u64], room: u64, letters: &[char]) -> Vec<Node> {
-    if room < 2 || (activities.len() == 1 && !random.once_in(6)) {
+    let letter = random.pick(letters);
+    let most = if letter == 'x' { 4 } else { activities.len() as u64 }.min(room.saturating_sub(1));
+    if most < 2 || (activities.len() == 1 && !random.once_in(6)) {
         return vec![('a', random.pick(activities))];
     }
-    let letter = random.pick(letters);
-    let most = if letter == 'x' { 4 } else { activities.len() as u64 };
-    let children = random.between(1, most.min(room - 1));
+    let children = random.between(2, most);
     let mut nodes = vec![(letter, children)];
     let mut from = 0;
     for child in 0..children {
@@ -114,12 +114,12 @@ fn large(random: &mut Random) -> Draft {
     draft(random, count, resources, longest, 64, &['s', 's', 's', 'p', 'x'])
 }
 
-/// Groups of one, up to 63 of them, over an activity.
-fn nested(random: &mut Random) -> Draft {
-    let depth = if random.once_in(4) { 63 } else { random.between(1, 62) };
-    let mut draft = draft(random, 1, 2, 2000, 1, &['s']);
-    let groups = (0..depth).map(|_| (random.pick(&['s', 'p', 'x']), 1));
-    draft.nodes = groups.chain([('a', 0)]).collect();
+/// A plan with some groups of one put over terms of it.
+fn groups_of_one(random: &mut Random) -> Draft {
+    let mut draft = if random.once_in(2) { tiny(random) } else { middling(random) };
+    for _ in 0..random.between(1, 3) {
+        draft.nodes.insert(random.index(draft.nodes.len()), (random.pick(&['s', 'p', 'x']), 1));
+    }
     draft
 }
 
@@ -221,7 +221,7 @@ fn loose_nodes(random: &mut Random) -> Draft {
     let mut draft = match random.below(3) {
         0 => tiny(random),
         1 => middling(random),
-        _ => nested(random),
+        _ => large(random),
     };
     let size = draft.nodes.len();
     let at = random.index(size);
@@ -232,7 +232,7 @@ fn loose_nodes(random: &mut Random) -> Draft {
             draft.nodes.extend((0..extra).map(|_| ('a', 0)));
             draft.nodes.truncate(64);
         }
-        2 if draft.nodes[at].0 != 'a' => draft.nodes[at].1 = random.between(1, 63),
+        2 if draft.nodes[at].0 != 'a' => draft.nodes[at].1 = random.between(2, 63),
         3 => draft.nodes[at].0 = random.pick(&['s', 'p', 'x']),
         _ => {
             let other = draft.nodes.remove(at);
@@ -240,7 +240,7 @@ fn loose_nodes(random: &mut Random) -> Draft {
         }
     }
     for node in &mut draft.nodes {
-        node.1 = if node.0 == 'a' { node.1.min(draft.activities.len() as u64 - 1) } else { node.1.max(1) };
+        node.1 = if node.0 == 'a' { node.1.min(draft.activities.len() as u64 - 1) } else { node.1.max(2) };
     }
     draft
 }

@@ -1,0 +1,2 @@
+-- What a line read in part says of the text.
+pub mod Seen

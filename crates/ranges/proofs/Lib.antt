@@ -1,0 +1,3 @@
+-- The laws of these tests.
+pub mod Between
+pub mod Nodes
