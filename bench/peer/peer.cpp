@@ -1,10 +1,12 @@
 // The search for the active schedules, variant by variant: recursive, sets of activities as masks, arrays stored to and
-// restored.
+// restored. Rows are sorted as a whole once all are written.
 #include "peer.h"
 
 #include <string.h>
 
 #include <algorithm>
+#include <array>
+#include <utility>
 
 namespace {
 
@@ -133,10 +135,15 @@ class Search {
     return i < plan_.activities && ends[i] != 0 ? ends[i] - plan_.duration[i] : kMark;
   }
 
+  // In one variant the starts of two schedules compare as their ends do.
+  bool ends_before() const {
+    return std::lexicographical_compare(ends_, ends_ + kActivities, best_ends_, best_ends_ + kActivities);
+  }
+
   bool finished(uint32_t latest) {
     if (count_ == cap_) return false;
     count_++;
-    if (latest < makespan_) {
+    if (latest < makespan_ || (latest == makespan_ && variant_ == best_variant_ && ends_before())) {
       makespan_ = latest;
       best_variant_ = variant_;
       memcpy(best_ends_, ends_, sizeof ends_);
@@ -191,6 +198,31 @@ class Search {
   uint16_t *rows_ = nullptr;
 };
 
+// By the first cells that differ; `std::array` compares more slowly.
+template <size_t W>
+struct Row {
+  uint16_t cells[W];
+
+  bool operator<(const Row &other) const {
+    for (size_t i = 0; i < W; i++) {
+      if (cells[i] != other.cells[i]) return cells[i] < other.cells[i];
+    }
+    return false;
+  }
+};
+
+template <size_t W>
+void sort_rows(uint16_t *area, uint64_t count) {
+  auto *rows = reinterpret_cast<Row<W> *>(area);
+  std::sort(rows, rows + count);
+}
+
+// For each number of activities from 1 on, the sort of rows of one cell more.
+template <size_t... N>
+constexpr auto sorts(std::index_sequence<N...>) {
+  return std::array{sort_rows<N + 2>...};
+}
+
 void answer(uint64_t *out, uint64_t a, uint64_t b, uint64_t c, uint64_t d) {
   out[0] = a;
   out[1] = b;
@@ -215,5 +247,6 @@ void peer_list(const uint8_t *file, size_t, uint32_t cap, uint16_t *area, size_t
   uint64_t cells = search.count() * (plan.activities + 1);
   if (area_len < cells) return answer(out, 8, cells, 0, 0);
   search.run(area);
+  sorts(std::make_index_sequence<kActivities>())[plan.activities - 1](area, search.count());
   answer(out, 0, search.count(), 0, 0);
 }

@@ -1,5 +1,5 @@
 /* The planner's enumeration in plain C++, to compare speed with. Each function takes the file of an accepted plan; the
- * answers are those of the planner's calls of the same names. */
+ * answers are those of the planner's calls of the same names, cell for cell. */
 #ifndef PEER_H
 #define PEER_H
 

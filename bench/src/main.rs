@@ -3,7 +3,7 @@
 mod peer;
 mod plans;
 
-use planner::{Answer, Planner, MARK};
+use planner::{Planner, MARK};
 use plans::Plan;
 use reference::file::parse;
 use reference::is_session;
@@ -139,10 +139,10 @@ fn best_table(title: &str, plans: &[Plan]) {
         let by_planner = |starts: &mut [u16]| planner.best(file, CAP, starts.try_into().unwrap());
         let by_peer = |starts: &mut [u16]| peer::best(file, CAP, starts.try_into().unwrap());
         if is_timed(sessions) {
-            let answer = by_planner(&mut starts);
-            assert_eq!(answer.map(|a| (a.makespan, a.count)), found.map(|f| (f.makespan, f.count)), "{name}");
+            let mut planned = [MARK; 24];
+            assert_eq!((by_planner(&mut planned), planned), (found, starts), "{name}");
             let is_session = |v| is_session(&plan.activities, &plan.term.variant(v), &starts);
-            assert!(answer.map_or(true, |best| is_session(best.variant)), "{name}");
+            assert!(found.map_or(true, |best| is_session(best.variant)), "{name}");
         }
         let (time, peer_time) = race(24, is_timed(sessions).then_some(by_planner), by_peer);
         let begin = user_time();
@@ -163,31 +163,54 @@ fn best_table(title: &str, plans: &[Plan]) {
     }
 }
 
+struct Listing {
+    rows: u64,
+    cells: usize,
+    /// The planner's, if it is timed, and the peer's.
+    times: [Option<f64>; 2],
+}
+
+/// None where there are more sessions than the cap.
+fn listing(Plan { name, file }: &Plan) -> Option<Listing> {
+    let (planner, _) = PLANNER;
+    let rows = peer::best(file, CAP, &mut [0; 24]).ok()?.count;
+    let cells = rows as usize * (parse(file).unwrap().activities.len() + 1);
+    let by_planner = |area: &mut [u16]| planner.list(file, CAP, area);
+    let by_peer = |area: &mut [u16]| peer::list(file, CAP, area);
+    if is_timed(rows) {
+        let mut areas = [vec![0; cells], vec![0; cells]];
+        assert_eq!([by_planner(&mut areas[0]), by_peer(&mut areas[1])], [Ok(rows); 2], "{name}");
+        assert!(areas[0] == areas[1], "{name}: the rows differ");
+    }
+    let (time, peer_time) = race(cells, is_timed(rows).then_some(by_planner), by_peer);
+    Some(Listing { rows, cells, times: [time, Some(peer_time)] })
+}
+
 fn list_table(title: &str, plans: &[Plan]) {
-    let (planner, name) = PLANNER;
     println!("\n{title}\n");
-    println!("{:<24} {:>9} {:>9}  {name:>9} {:>9} {:>8}", "plan", "rows", "cells", "peer", "ratio");
-    for Plan { name, file } in plans {
-        let Ok(best) = peer::best(file, CAP, &mut [0; 24]) else {
+    println!("{:<24} {:>9} {:>9}  {:>9} {:>9} {:>8}", "plan", "rows", "cells", PLANNER.1, "peer", "ratio");
+    for plan in plans {
+        let Some(Listing { rows, cells, times: [time, peer_time] }) = listing(plan) else {
             continue;
         };
-        let width = parse(file).unwrap().activities.len() + 1;
-        let cells = best.count as usize * width;
-        let by_planner = |area: &mut [u16]| planner.list(file, CAP, area);
-        let by_peer = |area: &mut [u16]| peer::list(file, CAP, area);
-        let rows = |list: &dyn Fn(&mut [u16]) -> Answer<u64>| {
-            let mut area = vec![0; cells];
-            assert_eq!(list(&mut area), Ok(best.count), "{name}");
-            let mut rows: Vec<Vec<u16>> = area.chunks(width).map(<[u16]>::to_vec).collect();
-            rows.sort();
-            rows
+        print!("{:<24} {rows:>9} {cells:>9}", plan.name);
+        println!("  {:>9} {:>9} {:>8}", shown(time), shown(peer_time), ratio(time, peer_time));
+    }
+}
+
+fn list_growth(title: &str, plans: &[Plan]) {
+    println!("\n{title}; each row: its time, the first plan's being 1\n");
+    print!("{:<24} {:>9} {:>9}", "plan", "rows", "cells");
+    println!("  {:>9} {:>9} {:>9} {:>9} {:>8}", PLANNER.1, "each row", "peer", "each row", "ratio");
+    let mut first = None;
+    for plan in plans {
+        let Some(Listing { rows, cells, times: [time, peer_time] }) = listing(plan) else {
+            continue;
         };
-        if is_timed(best.count) {
-            assert!(rows(&by_planner) == rows(&by_peer), "{name}: the rows differ");
-        }
-        let (time, peer_time) = race(cells, is_timed(best.count).then_some(by_planner), by_peer);
-        print!("{name:<24} {:>9} {cells:>9}", best.count);
-        println!("  {:>9} {:>9} {:>8}", shown(time), shown(Some(peer_time)), ratio(time, Some(peer_time)));
+        let each = [time, peer_time].map(|time| time.map(|time| time / rows as f64));
+        let [by_planner, by_peer] = *first.get_or_insert(each);
+        print!("{:<24} {rows:>9} {cells:>9}  {:>9} {:>9}", plan.name, shown(time), ratio(each[0], by_planner));
+        println!(" {:>9} {:>9} {:>8}", shown(peer_time), ratio(each[1], by_peer), ratio(time, peer_time));
     }
 }
 
@@ -201,6 +224,7 @@ fn main() {
     let plans = plans::main_plans();
     best_table("BEST", &plans);
     list_table("LIST", &plans);
+    list_growth("Growth of LIST with the number of rows", &plans::by_rows());
     best_table("BEST against the number of sessions", &plans::by_sessions());
     best_table("BEST against the number of activities", &plans::by_activities());
 }

@@ -105,6 +105,12 @@ pub fn by_sessions() -> Vec<Plan> {
     sizes.map(flat).into()
 }
 
+/// Twelve activities side by side, from some 10^4 rows to some 10^6.
+pub fn by_rows() -> Vec<Plan> {
+    let sizes: [&[usize]; 6] = [&[4, 4, 4], &[6, 4, 2], &[7, 4, 1], &[8, 3, 1], &[6, 6], &[8, 4]];
+    sizes.map(flat).into()
+}
+
 /// Eight activities side by side on one resource, and then a sequence: 40320 sessions, the activities more and more.
 pub fn by_activities() -> Vec<Plan> {
     let with_tail = |tail: usize| {

@@ -1,12 +1,12 @@
--- LIST: the rows of COUNT's pairs, each once, in an order that is open, from the front of the area with no gap. What
--- stands behind them is as it was, and a refusal leaves the whole area as it was.
+-- LIST: the rows of COUNT's pairs in their order, from the front of the area with no gap. What stands behind them is as
+-- it was, and a refusal leaves the whole area as it was.
 use Prim.Native.Nat.{ℕ, suc, _*_}
 use mathlib.Core.Bool.{Bool, true, false}
-use mathlib.Core.List.{List, _++_, Perm}
-use mathlib.Core.Path.{_≡_}
+use mathlib.Core.List.{List, _++_}
 use lib.Dec.{leb}
 use lib.ListN.{length, drop}
 use Rattle.base.specs.Lists.{cellsOf}
+use Rattle.plan.specs.Outcome.{Outcome}
 use Rattle.plan.specs.Plan.{Plan}
 use Rattle.plan.specs.declared.Refusal.the-variants.{OverCap, AreaTooShort}
 use Rattle.term.specs.Term.{Term}
@@ -19,21 +19,17 @@ use Rattle.answers.specs.declared.ListAnswer.the-variants.{Listed, Refus
 abbrev pub cellsNeeded : Plan → Term → ℕ
 cellsNeeded p t = pairCount p t * suc (length (p .activities))
 
-pub record Rows (p : Plan) (t : Term) (before after : List ℕ) : Type 0 where
-  pub rows : List (List ℕ)
-  pub each-once : Perm rows (pairs p t)
-  pub cells : after ≡ cellsOf rows ++ drop (cellsNeeded p t) before
-
 -- By whether the cap allows the pairs, and whether the area holds their rows.
-abbrev pub Lists : Bool → Bool → Plan → Term → List ℕ → ListAnswer → List ℕ → Type 0
-Lists false fits p t before answer after = (answer ≡ Refused OverCap) × (after ≡ before)
-Lists true false p t before answer after = (answer ≡ Refused (AreaTooShort (cellsNeeded p t))) × (after ≡ before)
-Lists true true p t before answer after = (answer ≡ Listed (pairCount p t)) × Rows p t before after
+abbrev pub listWithin : Bool → Bool → Plan → Term → List ℕ → Outcome ListAnswer
+listWithin false fits p t area = record { answer = Refused OverCap; area = area }
+listWithin true false p t area = record { answer = Refused (AreaTooShort (cellsNeeded p t)); area = area }
+listWithin true true p t area =
+    record { answer = Listed (pairCount p t); area = cellsOf (pairs p t) ++ drop (cellsNeeded p t) area }
 
-abbrev pub ListsBy : Verdict → ℕ → List ℕ → ListAnswer → List ℕ → Type 0
-ListsBy (accepts p t) cap before answer after =
-    Lists (leb (pairCount p t) cap) (leb (cellsNeeded p t) (length before)) p t before answer after
-ListsBy (refuses r) cap before answer after = (answer ≡ Refused r) × (after ≡ before)
+abbrev pub listBy : Verdict → ℕ → List ℕ → Outcome ListAnswer
+listBy (accepts p t) cap area =
+    listWithin (leb (pairCount p t) cap) (leb (cellsNeeded p t) (length area)) p t area
+listBy (refuses r) cap area = record { answer = Refused r; area = area }
 
-unfoldable pub ListOf : List ℕ → ℕ → List ℕ → ListAnswer → List ℕ → Type 0
-ListOf s cap before answer after = ListsBy (judge s) cap before answer after
+unfoldable pub listOf : List ℕ → ℕ → List ℕ → Outcome ListAnswer
+listOf s cap area = listBy (judge s) cap area

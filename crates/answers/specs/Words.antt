@@ -1,16 +1,17 @@
--- The listing in the words of the paper, with no tests and no box.
-use Prim.Native.Nat.{ℕ, _<_}
-use mathlib.Core.List.{List, _∷_, _++_, List·Memᴰ, List·Nodup}
-use mathlib.Core.Logic.{_↔_}
+-- The listing and a shortest session in the words of the paper, with no tests and no box.
+use Prim.Native.Nat.{ℕ, _≤_, _<_}
+use mathlib.Core.List.{List, _∷_, _++_, List·Memᴰ, List·Nodup, Pairwise}
+use mathlib.Core.Logic.{_↔_, _≢_, _⊎_}
 use mathlib.Core.Path.{_≡_}
 use lib.ListN.{length, drop}
 use Rattle.plan.specs.Plan.{Plan}
 use Rattle.term.specs.Term.{Term}
 use Rattle.term.specs.Variants.{variantCount}
 use Rattle.variant.specs.Project.{variantAt}
-use Rattle.variant.specs.Words.{ActiveSession}
+use Rattle.variant.specs.Words.{ActiveSession, Sooner}
 use Rattle.judge.specs.Judge.{judge, accepts}
 use Rattle.base.specs.Lists.{cellsOf}
+use Rattle.answers.specs.Shortest.{rowVariant, rowStarts, rowSpan}
 
 -- A row is v and then N starts: v is a variant, and the starts are an active session of it.
 pub record IsRow (p : Plan) (t : Term) (row : List ℕ) : Type 0 where
@@ -20,9 +21,16 @@ pub record IsRow (p : Plan) (t : Term) (row : List ℕ) : Type 0 where
   pub below : variant < variantCount t
   pub session : ActiveSession p (variantAt t variant) starts
 
--- Exactly these rows, and none of them twice.
+-- By variant number, then by the start of activity 0, then of activity 1 and so on through the present ones.
+abbrev pub StandsBefore : Term → List ℕ → List ℕ → Type 0
+StandsBefore t a b =
+    (rowVariant a < rowVariant b)
+    ⊎ ((rowVariant a ≡ rowVariant b) × Sooner (variantAt t (rowVariant a)) (rowStarts a) (rowStarts b))
+
+-- Exactly these rows, each standing before all that follow it, and so none of them twice.
 pub record Listing (p : Plan) (t : Term) (rows : List (List ℕ)) : Type 0 where
   pub exactly : (row : List ℕ) → List·Memᴰ row rows ↔ IsRow p t row
+  pub ordered : Pairwise (StandsBefore t) rows
   pub once : List·Nodup rows
 
 -- What LIST leaves in the area when it answers n: n such rows from the front with no gap, and what stood behind them.
@@ -34,3 +42,10 @@ pub record ListingOf (s : List ℕ) (n : ℕ) (before after : List ℕ) : Type 0
   pub count : length rows ≡ n
   pub cells : after ≡ cellsOf rows ++ drop (length (cellsOf rows)) before
   pub listing : Listing plan term rows
+
+-- BEST's row: none of the rows is shorter, and it stands before every other that is as short.
+pub record FirstShortest (p : Plan) (t : Term) (row : List ℕ) : Type 0 where
+  pub one-of : IsRow p t row
+  pub least : (other : List ℕ) → IsRow p t other → rowSpan p t row ≤ rowSpan p t other
+  pub first : (other : List ℕ) → IsRow p t other → rowSpan p t other ≡ rowSpan p t row → other ≢ row
+      → StandsBefore t row other

@@ -3,3 +3,4 @@ pub mod Bools
 pub mod Below
 pub mod Lists
 pub mod Every
+pub mod Order

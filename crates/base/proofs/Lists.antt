@@ -1,19 +1,20 @@
 -- Lists that `keep`, `gather` and `cellsOf` make: their members, how long they are, permutations part by part.
 use Prim.Native.Nat.{ℕ, zero, suc, _*_, _≤_, _<_}
 use native.Mathlib.Nat.{ℕ-set, not-suc-le-zero, suc-mul}
-use native.Mathlib.Decide.{ℕ-discrete}
+use native.Mathlib.Decide.{ℕ-discrete, decLe}
 use native.Mathlib.Omega.{arith}
 use mathlib.Core.Bool.{Bool, true}
 use mathlib.Core.Path.{_≡_, refl, sym, _∙_, ap, ap₂}
-use mathlib.Core.HLevel.{⊥-prop}
-use mathlib.Core.Logic.{_≢_, ⊎-elim, ∥∥₁-elim, by-cases}
+use mathlib.Core.HLevel.{⊥-prop, ¬-prop}
+use mathlib.Core.Logic.{_≢_, _⊎_, inl, inr, ⊎-elim, ∥∥₁-elim, ∥∥₁-map, by-cases}
 use mathlib.Core.List.{List, [], _∷_, _++_, map, append-nil, Perm, Perm·refl, Perm·append, List·Memᴰ, List·Memᴰ·head}
 use mathlib.Core.List.{List·Memᴰ·tail, List·Mem, List·Memᴰ·not-nil, List·Memᴰ·cases-cons, Memᴰ·append-left}
-use mathlib.Core.List.{Memᴰ·append-right, List·Memᴰ·append-cases, List·Nodup, nodup-nil, nodup-cons, nodup-append}
+use mathlib.Core.List.{Memᴰ·append-right, List·Memᴰ·append-cases, List·Nodup, Memᴰ·cast, Pairwise}
+use mathlib.Core.List.{List·Memᴰ·eq-of-singleton, Pairwise·nil, Pairwise·cons, pairwise-cons, pairwise-append}
 use mathlib.Core.List.{List·Permᴰ, List·Permᴰ·nil, List·Permᴰ·cons, List·Permᴰ·swap, List·Permᴰ·trans}
 use lib.ListN.{length, getD, take, length-append, length-take, List·getD-append}
 use lib.Seq.{ext-getD, getD-take, getD-append-seam}
-use Rattle.base.specs.Lists.{keep, gather, cellsOf}
+use Rattle.base.specs.Lists.{keep, gather, leastOf, cellsOf}
 use Rattle.base.proofs.Bools.{by-bool, true-not-false}
 
 module _ {ℓ} {A : Type ℓ} where
@@ -29,9 +30,6 @@ module _ {ℓ} {A : Type ℓ} where
 
   pub mem-found : Discrete A → (a : A) (l : List A) → List·Mem a l → List·Memᴰ a l
   mem-found d a l m = by-cases (decide-mem d a l) (λ y. y) (λ n. absurd (∥∥₁-elim m ⊥-prop n))
-
-  pub no-mem : {a : A} {l : List A} → (List·Memᴰ a l → ⊥) → ¬ List·Mem a l
-  no-mem f m = ∥∥₁-elim m ⊥-prop f
 
   -- keep
 
@@ -59,15 +57,18 @@ module _ {ℓ} {A : Type ℓ} where
       (λ y. rw y (⊎-elim (λ q. List·Memᴰ·head q) (λ m′. List·Memᴰ·tail (rest m′)) (List·Memᴰ·cases-cons m)))
       (λ z. rw z (⊎-elim (λ q. true-not-false (sym (ap f q) ∙ e) z) rest (List·Memᴰ·cases-cons m)))
 
-  pub keep-nodup : (f : A → Bool) (l : List A) → List·Nodup l → List·Nodup (keep f l)
+  -- What holds of each and all that follow it.
+  pub keep-pairwise {κ} : {R : A → A → Type κ} (f : A → Bool) (l : List A) → Pairwise R l → Pairwise R (keep f l)
   unfolding keep
-  keep-nodup f [] n = nodup-nil
-  keep-nodup f (x ∷ xs) n =
-      let (fresh, rest) = nodup-cons .0 n in
+  keep-pairwise f [] r = r
+  keep-pairwise f (x ∷ xs) r =
+      let (first, rest) = pairwise-cons .0 r in
       by-bool
       (f x)
-      (λ y. rw y (nodup-cons .1 (no-mem (λ m. fresh ∣ (keep-is f xs m) .0 ∣₁), keep-nodup f xs rest)))
-      (λ z. rw z (keep-nodup f xs rest))
+      (λ y.
+      rw y
+      (Pairwise·cons (λ a m. first a (∥∥₁-map m (λ n. (keep-is f xs n) .0))) (keep-pairwise f xs rest)))
+      (λ z. rw z (keep-pairwise f xs rest))
 
   -- gather
 
@@ -90,21 +91,29 @@ module _ {ℓ} {A : Type ℓ} where
       (λ q. Memᴰ·append-right (gather n f) (rw q at m))
       (λ ne. Memᴰ·append-left (f n) (gather-mem n f i (omega arith) m))
 
+  pub gather-pairwise {κ} : {R : A → A → Type κ} → ((a b : A) → IsProp (R a b)) → (n : ℕ) (f : ℕ → List A)
+      → ((i : ℕ) → i < n → Pairwise R (f i))
+      → ((i j : ℕ) → i < j → (a b : A) → List·Memᴰ a (f i) → List·Memᴰ b (f j) → R a b)
+      → Pairwise R (gather n f)
+  unfolding gather
+  gather-pairwise prop zero f each apart = Pairwise·nil
+  gather-pairwise prop (suc n) f each apart =
+      pairwise-append prop .1 (
+        gather-pairwise prop n f (λ i l. each i (omega arith)) apart,
+        each n (omega arith),
+        λ a m b m′.
+            ∥∥₁-elim m (prop a b)
+            (λ x. ∥∥₁-elim m′ (prop a b)
+            (λ y. let (i, l, z) = gather-is n f x in apart i n l a b z y)),
+      )
+
   pub gather-nodup : (n : ℕ) (f : ℕ → List A)
       → ((i : ℕ) → i < n → List·Nodup (f i))
       → ((i j : ℕ) (a : A) → List·Memᴰ a (f i) → List·Memᴰ a (f j) → i ≡ j)
       → List·Nodup (gather n f)
-  unfolding gather
-  gather-nodup zero f each apart = nodup-nil
-  gather-nodup (suc n) f each apart =
-      nodup-append .1 (
-        gather-nodup n f (λ i l. each i (omega arith)) apart,
-        each n (omega arith),
-        λ a m m′.
-            ∥∥₁-elim m ⊥-prop
-            (λ x. ∥∥₁-elim m′ ⊥-prop
-            (λ y. let (i, l, z) = gather-is n f x in absurd (omega (arith, apart i n a z y)))),
-      )
+  gather-nodup n f each apart =
+      gather-pairwise (λ a b. ¬-prop) n f each
+      (λ i j l a b m m′ e. absurd (omega (arith, apart i j a m (Memᴰ·cast e m′))))
 
 -- ---- map and gather
 
@@ -159,6 +168,16 @@ pub map-map {ℓ κ μ} : {A : Type ℓ} {B : Type κ} {C : Type μ} (g : B → 
 map-map g f [] = refl
 map-map g f (x ∷ xs) = ap (g (f x) ∷_) (map-map g f xs)
 
+-- The first element, and what holds between it and the others.
+pub first-mem {ℓ} : {A : Type ℓ} (l : List A) (d : A) {a : A} → List·Memᴰ a l → List·Memᴰ (getD l 0 d) l
+first-mem [] d m = absurd (List·Memᴰ·not-nil m)
+first-mem (x ∷ xs) d m = List·Memᴰ·head refl
+
+pub first-to {ℓ κ} : {A : Type ℓ} {R : A → A → Type κ} (l : List A) (d : A) {a : A} → Pairwise R l → List·Memᴰ a l
+    → (a ≡ getD l 0 d) ⊎ R (getD l 0 d) a
+first-to [] d r m = absurd (List·Memᴰ·not-nil m)
+first-to (x ∷ xs) d {a} r m = ⊎-elim (λ e. inl e) (λ n. inr (pairwise-cons .0 r .0 a ∣ n ∣₁)) (List·Memᴰ·cases-cons m)
+
 pub mem-some {ℓ} : {A : Type ℓ} {a : A} (l : List A) → List·Memᴰ a l → 1 ≤ length l
 mem-some [] m = absurd (List·Memᴰ·not-nil m)
 mem-some (x ∷ xs) m = omega arith
@@ -195,6 +214,22 @@ singles-front f m n le =
     getD-take m (gather n λ i. f i ∷ []) i 0 (omega arith)
     ∙ singles-at f n i 0 (omega arith)
     ∙ sym (singles-at f m i 0 (omega arith)))
+
+-- The least number of a list.
+
+pub least-below : (l : List ℕ) (a : ℕ) → List·Memᴰ a l → leastOf l ≤ a
+least-below [] a m = absurd (List·Memᴰ·not-nil m)
+least-below (x ∷ []) a m = omega (arith, List·Memᴰ·eq-of-singleton m)
+least-below (x ∷ (y ∷ ys)) a m =
+    ⊎-elim (λ e. omega arith) (λ later. omega (arith, least-below (y ∷ ys) a later)) (List·Memᴰ·cases-cons m)
+
+pub least-mem : (x : ℕ) (xs : List ℕ) → List·Memᴰ (leastOf (x ∷ xs)) (x ∷ xs)
+least-mem x [] = List·Memᴰ·head refl
+least-mem x (y ∷ ys) =
+    by-cases
+    (decLe x (leastOf (y ∷ ys)))
+    (λ l. List·Memᴰ·head (omega arith))
+    (λ g. List·Memᴰ·tail (Memᴰ·cast (omega arith) (least-mem y ys)))
 
 -- Rows that are equally long fill that many cells each.
 pub cells-length : (k : ℕ) (rows : List (List ℕ)) → ((row : List ℕ) → List·Memᴰ row rows → length row ≡ k)

@@ -1,3 +1,4 @@
--- What every layer counts, sums and lists by.
+-- What every layer counts, sums, lists and orders by.
 pub mod Below
 pub mod Lists
+pub mod Order

@@ -1,5 +1,5 @@
 -- Lists made from tests and from numbers, and the cells of rows.
-use Prim.Native.Nat.{ℕ, zero, suc}
+use Prim.Native.Nat.{ℕ, zero, suc, min}
 use mathlib.Core.Bool.{Bool, true, cond, _&&_}
 use mathlib.Core.List.{List, [], _∷_, _++_}
 
@@ -17,6 +17,12 @@ keep f (x ∷ xs) = cond (f x) (x ∷ keep f xs) (keep f xs)
 unfoldable pub gather {ℓ} : {A : Type ℓ} → ℕ → (ℕ → List A) → List A
 gather zero f = []
 gather (suc n) f = gather n f ++ f n
+
+-- The least number of a list; 0 if there is none.
+abbrev pub leastOf : List ℕ → ℕ
+leastOf [] = 0
+leastOf (x ∷ []) = x
+leastOf (x ∷ y ∷ ys) = min x (leastOf (y ∷ ys))
 
 -- Rows laid one after another.
 unfoldable pub cellsOf : List (List ℕ) → List ℕ

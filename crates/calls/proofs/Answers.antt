@@ -3,25 +3,29 @@ use Prim.Native.Nat.{ℕ, suc, _+_, _*_, _≤_, _<_}
 use native.Mathlib.Numerals.{add-one}
 use native.Mathlib.Omega.{arith}
 use mathlib.Core.Bool.{true, false}
-use mathlib.Core.Path.{_≡_, refl, sym, ap, ap₂, subst, _∙_}
-use mathlib.Core.List.{List}
+use mathlib.Core.Path.{_≡_, refl, sym, ap, ap₂, _∙_}
+use mathlib.Core.List.{List, _++_}
 use lib.Dec.{leb}
-use lib.ListN.{length}
+use lib.ListN.{length, drop}
 use borrow.Author.Tests.{le-leb, lt-leb}
+use Rattle.base.specs.Lists.{cellsOf}
+use Rattle.base.specs.Order.{sorted}
+use Rattle.sorting.specs.Rows.{rowsIn}
+use Rattle.plan.specs.Limits.{latestPossible}
 use Rattle.plan.specs.Plan.{Plan, planOf}
 use Rattle.plan.specs.declared.Refusal.the-variants.{OverCap, AreaTooShort}
 use Rattle.term.specs.Term.{Term}
 use Rattle.timetable.specs.Mark.{noStarts}
-use Rattle.search.specs.Seen.{kept, noTally}
-use Rattle.search.specs.declared.Tally.{Tally}
-use Rattle.variant.specs.Pairs.{pairCount}
+use Rattle.tally.specs.Seen.{kept, noTally}
+use Rattle.tally.specs.declared.Tally.{Tally}
+use Rattle.variant.specs.Pairs.{pairs, pairCount}
 use Rattle.judge.specs.Judge.{accepts}
 use Rattle.judge.specs.Campaign.{HoldsPlan}
 use Rattle.judge.specs.declared.Campaign.{Campaign}
 use Rattle.judge.proofs.Ranges.{acts-are}
 use Rattle.answers.specs.Count.{countBy}
-use Rattle.answers.specs.Listed.{ListsBy, Rows, cellsNeeded}
-use Rattle.answers.specs.Shortest.{BestBy, Finds}
+use Rattle.answers.specs.Listed.{listBy, cellsNeeded}
+use Rattle.answers.specs.Shortest.{bestBy}
 use Rattle.answers.specs.declared.Best.{Best}
 use Rattle.answers.specs.declared.BestAnswer.the-variants.{Found}
 use Rattle.answers.specs.declared.BestAnswer.the-variants as bests
@@ -29,9 +33,9 @@ use Rattle.answers.specs.declared.CountAnswer.the-variants as counts
 use Rattle.answers.specs.declared.ListAnswer.the-variants as lists
 use Rattle.plan_exact.proofs.Variant.{chosen}
 use Rattle.variant.proofs.Tables.{tables-hold}
-use Rattle.plan_exact.proofs.Rows.{HeldEach}
+use Rattle.plan_exact.proofs.Rows.{HeldEach, allRows}
 use Rattle.sweep.specs.Swept.{tablesAt, swept}
-use Rattle.calls.proofs.Swept.{allowed, too-many, all-rows, kept-finds}
+use Rattle.calls.proofs.Swept.{allowed, too-many, all-rows, placed-rows, kept-best}
 
 module _ (c : Campaign) (t : Term) (holds : HoldsPlan c t) (cap : ℕ) where
   abbrev p : Plan
@@ -41,20 +45,20 @@ module _ (c : Campaign) (t : Term) (holds : HoldsPlan c t) (cap : ℕ) where
   held v l = tables-hold p t v (chosen p t v (holds .valid) l)
 
   -- A sweep's tally, whatever area it was lent.
-  module _ (area : List ℕ) (r : Tally) (is : r ≡ swept c t cap area .tally) where
-    count-is : r .count ≡ swept c t cap area .tally .count
+  module _ (end : ℕ) (area : List ℕ) (r : Tally) (is : r ≡ swept c t cap (kept (noTally end) area) .tally) where
+    count-is : r .count ≡ swept c t cap (kept (noTally end) area) .tally .count
     count-is = ap (λ (x : Tally). x .count) is
 
     -- The count tells whether the cap allows the pairs, and is their number then.
     pairs-allowed : r .count ≤ cap → (pairCount p t ≡ r .count) × (leb (pairCount p t) cap ≡ true)
     pairs-allowed l =
         let h =
-        allowed p t (holds .valid) (tablesAt c t) held cap (kept noTally area) refl (omega (arith, count-is)) in
+        allowed p t (holds .valid) (tablesAt c t) held cap (kept (noTally end) area) refl (omega (arith, count-is)) in
         (h .0 ∙ sym count-is, h .1)
 
     pairs-refused : cap < r .count → leb (pairCount p t) cap ≡ false
     pairs-refused l =
-        too-many p t (holds .valid) (tablesAt c t) held cap (kept noTally area) refl (omega (arith, count-is))
+        too-many p t (holds .valid) (tablesAt c t) held cap (kept (noTally end) area) refl (omega (arith, count-is))
 
     pub counts-allowed : r .count ≤ cap → counts.Counted (r .count) ≡ countBy (accepts p t) cap
     counts-allowed l = let h = pairs-allowed l in rw (h .1) (ap counts.Counted (sym (h .0)))
@@ -62,52 +66,68 @@ module _ (c : Campaign) (t : Term) (holds : HoldsPlan c t) (cap : ℕ) where
     pub counts-refused : cap < r .count → counts.Refused OverCap ≡ countBy (accepts p t) cap
     counts-refused l = rw (pairs-refused l) refl
 
-    -- LIST: the cells that the rows need.
+    -- LIST: the cells of a row, and those that the rows need.
+    width-is : c .tables .acts + 1 ≡ suc (length (p .activities))
+    width-is = add-one (c .tables .acts) ∙ ap suc (sym (acts-are (c .tables) (holds .ranged)))
+
     needed-is : r .count ≤ cap → r .count * (c .tables .acts + 1) ≡ cellsNeeded p t
-    needed-is l =
-        ap₂ _*_ (sym (pairs-allowed l .0))
-        (add-one (c .tables .acts) ∙ ap suc (sym (acts-are (c .tables) (holds .ranged))))
+    needed-is l = ap₂ _*_ (sym (pairs-allowed l .0)) width-is
 
     module _ (before : List ℕ) where
-      pub lists-refused : cap < r .count → ListsBy (accepts p t) cap before (lists.Refused OverCap) before
-      lists-refused l = rw (pairs-refused l) (refl, refl)
+      pub lists-refused : cap < r .count
+          → record { answer = lists.Refused OverCap; area = before } ≡ listBy (accepts p t) cap before
+      lists-refused l = rw (pairs-refused l) refl
 
       pub lists-short : r .count ≤ cap → length before < r .count * (c .tables .acts + 1)
-          → ListsBy (accepts p t) cap before (lists.Refused (AreaTooShort (r .count * (c .tables .acts + 1)))) before
+          → record { answer = lists.Refused (AreaTooShort (r .count * (c .tables .acts + 1))); area = before }
+          ≡ listBy (accepts p t) cap before
       lists-short l short =
           rw (pairs-allowed l .1, lt-leb (cellsNeeded p t) (length before) (omega (arith, needed-is l)))
-          (ap (λ (n : ℕ). lists.Refused (AreaTooShort n)) (needed-is l), refl)
+          (ap (λ (n : ℕ). record { answer = lists.Refused (AreaTooShort n); area = before }) (needed-is l))
 
-      -- The second sweep, with the area that is lent.
-      pub lists-rows : r .count ≤ cap → r .count * (c .tables .acts + 1) ≤ length before → (after : List ℕ)
-          → after ≡ swept c t cap before .area
-          → ListsBy (accepts p t) cap before (lists.Listed (r .count)) after
-      lists-rows l room after cells =
-          let few : pairCount p t ≤ cap = omega (arith, pairs-allowed l .0) in
-          let all : Rows p t before (swept c t cap before .area) =
-          all-rows p t (holds .valid) (tablesAt c t) held cap (kept noTally before) refl few
+      -- The second sweep, with the area that is lent, and its rows sorted.
+      pub lists-rows : r .count ≤ cap → r .count * (c .tables .acts + 1) ≤ length before → (found after : List ℕ)
+          → found ≡ swept c t cap (kept (noTally end) before) .area
+          → after
+          ≡ cellsOf (sorted (rowsIn (c .tables .acts + 1) (r .count) found))
+          ++ drop (r .count * (c .tables .acts + 1)) found
+          → record { answer = lists.Listed (r .count); area = after } ≡ listBy (accepts p t) cap before
+      lists-rows l room found after swept-is sort =
+          let number : r .count ≡ pairCount p t = sym (pairs-allowed l .0) in
+          let rest : List ℕ = drop (cellsNeeded p t) before in
+          let filled : found ≡ cellsOf (allRows p t (tablesAt c t)) ++ rest =
+          swept-is
+          ∙ all-rows p t (holds .valid) (tablesAt c t) held cap (kept (noTally end) before) refl (omega arith)
           (omega (arith, needed-is l))
           in
-          rw (pairs-allowed l .1, le-leb (cellsNeeded p t) (length before) (omega (arith, needed-is l))) (
-            ap lists.Listed (sym (pairs-allowed l .0)),
-            subst (Rows p t before) (sym cells) all,
-          )
+          let done : after ≡ cellsOf (pairs p t) ++ rest =
+          sort
+          ∙ ap₂ (λ (rows : List (List ℕ)) (n : ℕ). cellsOf (sorted rows) ++ drop n found)
+          (ap₂ (λ (w n : ℕ). rowsIn w n found) width-is number)
+          (needed-is l)
+          ∙ ap
+          (λ (cells : List ℕ).
+          cellsOf (sorted (rowsIn (suc (length (p .activities))) (pairCount p t) cells)) ++ drop (cellsNeeded p t) cells)
+          filled
+          ∙ placed-rows p t (holds .valid) (tablesAt c t) held rest
+          in
+          rw (pairs-allowed l .1, le-leb (cellsNeeded p t) (length before) (omega (arith, needed-is l)))
+          (λ i. record { answer = lists.Listed (number i); area = done i })
 
     -- BEST
     pub best-refused : cap < r .count → (b : Best) → b .answer ≡ bests.Refused OverCap
         → b .timetable .starts ≡ noStarts
-        → BestBy (accepts p t) cap b
-    best-refused l b answer none = rw (pairs-refused l) (answer, none)
+        → b ≡ bestBy (accepts p t) cap
+    best-refused l b answer none =
+        rw (pairs-refused l) (λ i. record { answer = answer i; timetable = record { starts = none i } })
 
-    pub best-found : r .count ≤ cap → (b : Best) → b .answer ≡ Found (r .«best_variant») (r .«best_end») (r .count)
-        → b .timetable .starts ≡ r .best .starts → BestBy (accepts p t) cap b
-    best-found l b answer timetable =
+    pub best-found : latestPossible < end → r .count ≤ cap → (b : Best) → b .answer ≡ Found (r .«best_variant») (r .«best_end») (r .count)
+        → b .timetable .starts ≡ r .best .starts → b ≡ bestBy (accepts p t) cap
+    best-found late l b answer timetable =
         let few : pairCount p t ≤ cap = omega (arith, pairs-allowed l .0) in
-        let found : Finds p t b =
-        kept-finds p t (holds .valid) (tablesAt c t) held cap (kept noTally area) refl (omega arith) few b
+        rw (pairs-allowed l .1)
+        (kept-best p t (holds .valid) (tablesAt c t) held cap (kept (noTally end) area) refl late few b
         (answer
         ∙ ap (Found (r .«best_variant») (r .«best_end»)) (sym (pairs-allowed l .0))
         ∙ ap (λ (x : Tally). Found (x .«best_variant») (x .«best_end») (pairCount p t)) is)
-        (timetable ∙ ap (λ (x : Tally). x .best .starts) is)
-        in
-        rw (pairs-allowed l .1) found
+        (timetable ∙ ap (λ (x : Tally). x .best .starts) is))

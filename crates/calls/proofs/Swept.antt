@@ -1,37 +1,41 @@
--- What a sweep over the variants of a valid plan has kept: the number of its pairs, their rows, and one of them that
--- is shortest.
+-- What a sweep over the variants of a valid plan has kept: the number of its pairs, their rows in some order, and the
+-- first shortest of them.
 use Prim.Native.Nat.{ℕ, zero, suc, _*_, _≤_, _<_}
 use native.Mathlib.Omega.{arith}
 use mathlib.Core.Bool.{true, false}
-use mathlib.Core.Path.{_≡_, refl, sym, ap, ap₂, _∙_}
-use mathlib.Core.List.{List, _∷_, _++_, map}
+use mathlib.Core.Path.{_≡_, refl, sym, ap, ap₂, subst, _∙_}
+use mathlib.Core.List.{List, _∷_, _++_, map, List·Memᴰ, Memᴰ·of-map, head-eq-of-cons-eq, tail-eq-of-cons-eq}
 use lib.Dec.{leb}
 use lib.ListN.{length, drop, length-map}
+use lib.Seq.{drop-at}
 use borrow.Author.Tests.{le-leb, lt-leb, leb-true}
 use Rattle.plan.specs.Limits.{latestPossible}
 use Rattle.plan.specs.Plan.{Plan}
 use Rattle.term.specs.Term.{Term}
 use Rattle.term.specs.Variants.{variantCount}
-use Rattle.timetable.specs.Mark.{places}
 use Rattle.base.specs.Lists.{gather, cellsOf}
+use Rattle.base.specs.Order.{NotAfter, sorted}
 use Rattle.scan.specs.Model.{starts, found, scanOf, problemOf, lastEnd}
-use Rattle.search.specs.Seen.{Kept}
+use Rattle.scan.proofs.Starts.{starts-length}
+use Rattle.tally.specs.Seen.{Kept, rankKept}
 use Rattle.tally.specs.Entries.{Entry, entryOf, entriesBelow, run}
 use Rattle.tally.proofs.Entries.{entry-is, entry-in}
 use Rattle.tally.proofs.Count.{count-within, count-tells}
-use Rattle.tally.proofs.Best.{FirstFound, best}
+use Rattle.tally.proofs.Best.{rankEntry, FirstFound, best}
 use Rattle.tally.proofs.Area.{row, rows, rows-below, area-is}
-use Rattle.variant.specs.Pairs.{pairCount}
+use Rattle.variant.specs.Pairs.{pairs, pairCount}
 use Rattle.term.specs.Valid.{Valid}
-use Rattle.answers.specs.Listed.{cellsNeeded, Rows}
-use Rattle.answers.specs.Shortest.{Finds}
+use Rattle.answers.specs.Listed.{cellsNeeded}
+use Rattle.answers.specs.Shortest.{firstShortest, bestRow}
 use Rattle.answers.specs.declared.Best.{Best}
 use Rattle.answers.specs.declared.BestAnswer.the-variants.{Found}
-use Rattle.base.proofs.Lists.{map-map}
+use Rattle.base.proofs.Lists.{map-map, gather-is, cells-length}
 use Rattle.plan_exact.proofs.Variant.{chosen}
 use Rattle.plan_exact.proofs.Found.{variant-latest}
-use Rattle.plan_exact.proofs.Rows.{HeldEach, rowsOf, allRows, rows-count, pairs-some}
-use Rattle.plan_exact.proofs.Answers.{lists, finds}
+use Rattle.plan_exact.proofs.Rows.{HeldEach, rowsOf, allRows, rows-sorted, rows-count, pairs-some}
+use Rattle.plan_exact.proofs.Answers.{ranked, earliest-best}
+use Rattle.sorting.specs.Rows.{rowsIn}
+use Rattle.sorting.proofs.Rows.{rows-in-cells}
 use Rattle.variant.specs.declared.Variant.{Variant}
 
 gather-same : (n : ℕ) (f g : ℕ → List (List ℕ)) → ((v : ℕ) → f v ≡ g v) → gather n f ≡ gather n g
@@ -60,6 +64,29 @@ module _ (p : Plan) (t : Term) (valid : Valid p t) (x : ℕ → Variant) (held :
   entries-count =
       sym (length-map all (row acts)) ∙ ap length rows-are ∙ rows-count p t valid x held
 
+  -- The rows in some order, sorted where they lie, are the pairs.
+  row-wide : (r : List ℕ) → List·Memᴰ r (allRows p t x) → length r ≡ suc acts
+  row-wide r m =
+      let (v, l, n) = gather-is (variantCount t) (rowsOf acts x) m in
+      let (ends, k, e) = Memᴰ·of-map (λ ends. v ∷ starts (problemOf (x v)) acts ends) (scanOf (x v)) n in
+      sym (ap length e) ∙ ap suc (starts-length (problemOf (x v)) ends acts)
+
+  pub placed-rows : (rest : List ℕ)
+      → cellsOf (sorted (rowsIn (suc acts) (pairCount p t) (cellsOf (allRows p t x) ++ rest)))
+      ++ drop (cellsNeeded p t) (cellsOf (allRows p t x) ++ rest)
+      ≡ cellsOf (pairs p t) ++ rest
+  placed-rows rest =
+      let cells : List ℕ = cellsOf (allRows p t x) in
+      let count : length (allRows p t x) ≡ pairCount p t = rows-count p t valid x held in
+      ap₂ _++_
+      (ap cellsOf
+      (ap sorted
+      (ap (λ (n : ℕ). rowsIn (suc acts) n (cells ++ rest)) (sym count)
+      ∙ rows-in-cells (suc acts) (allRows p t x) rest row-wide)
+      ∙ rows-sorted p t valid x held))
+      (drop-at cells rest (cellsNeeded p t)
+      (cells-length (suc acts) (allRows p t x) row-wide ∙ ap (_* suc acts) count))
+
   -- A sweep that starts with a count of 0; for BEST also with an end that is later than any.
   module _ (cap : ℕ) (k : Kept) (fresh : k .tally .count ≡ 0) where
     abbrev after : Kept
@@ -79,14 +106,14 @@ module _ (p : Plan) (t : Term) (valid : Valid p t) (x : ℕ → Variant) (held :
         let tells : leb (after .tally .count) cap ≡ leb (length all) cap = count-tells acts cap k all fresh in
         ap (λ (n : ℕ). leb n cap) (sym entries-count) ∙ sym tells ∙ lt-leb (after .tally .count) cap l
 
-    -- An area that holds the rows is given them.
-    pub all-rows : pairCount p t ≤ cap → cellsNeeded p t ≤ length (k .area) → Rows p t (k .area) (after .area)
+    -- An area that holds the rows is given them; sorted, they are the pairs.
+    pub all-rows : pairCount p t ≤ cap → cellsNeeded p t ≤ length (k .area)
+        → after .area ≡ cellsOf (allRows p t x) ++ drop (cellsNeeded p t) (k .area)
     unfolding cellsOf
     all-rows few room =
         let wide : length all * suc acts ≡ cellsNeeded p t = ap (_* suc acts) entries-count in
-        lists p t valid x held (k .area) (after .area)
-        (area-is acts cap cellsOf refl (λ r rs. refl) k all fresh (omega (arith, entries-count)) (omega arith)
-        ∙ ap₂ (λ (l : List (List ℕ)) (n : ℕ). cellsOf l ++ drop n (k .area)) rows-are wide)
+        area-is acts cap cellsOf refl (λ r rs. refl) k all fresh (omega (arith, entries-count)) (omega arith)
+        ∙ ap₂ (λ (l : List (List ℕ)) (n : ℕ). cellsOf l ++ drop n (k .area)) rows-are wide
 
     first : latestPossible < k .tally .«best_end» → pairCount p t ≤ cap → FirstFound (after .tally) all
     first above few =
@@ -101,29 +128,26 @@ module _ (p : Plan) (t : Term) (valid : Valid p t) (x : ℕ → Variant) (held :
           variant-latest p t v (chosen p t v valid l) (x v) (held v l) ends m,
         ))
 
-    -- The schedule that is kept is what BEST asks for.
-    pub kept-finds : latestPossible < k .tally .«best_end» → pairCount p t ≤ cap → (b : Best)
+    -- The schedule that is kept is what BEST answers.
+    pub kept-best : latestPossible < k .tally .«best_end» → pairCount p t ≤ cap → (b : Best)
         → b .answer ≡ Found (after .tally .«best_variant») (after .tally .«best_end») (pairCount p t)
         → b .timetable .starts ≡ after .tally .best .starts
-        → Finds p t b
-    kept-finds above few b answer timetable =
+        → b ≡ bestRow p t (firstShortest p t)
+    kept-best above few b answer timetable =
         let f : FirstFound (after .tally) all = first above few in
         let (v, l, ends, m, is) = entry-is x (variantCount t) (f .entry) (f .one-of) in
-        let end : after .tally .«best_end» ≡ lastEnd ends =
-        f .keeps .end-is ∙ ap (λ (e : Entry). lastEnd (e .ends)) (sym is) in
-        let number : after .tally .«best_variant» ≡ v =
-        f .keeps .variant-is ∙ ap (λ (e : Entry). e .variant) (sym is) in
-        finds p t valid x held b v ends
+        let rank : rankKept (after .tally) ≡ ranked x v ends = f .keeps ∙ ap rankEntry (sym is) in
+        let end : after .tally .«best_end» ≡ lastEnd ends = head-eq-of-cons-eq rank in
+        let number : after .tally .«best_variant» ≡ v = head-eq-of-cons-eq (tail-eq-of-cons-eq rank) in
+        earliest-best p t valid x held v ends
         (record {
           below = l;
           found = m;
-          least =
+          first =
               λ u other below n.
-              omega (
-                arith,
-                end,
-                f .least (entryOf (problemOf (x u)) u other) (entry-in x (variantCount t) u other below n),
-              );
+              subst (λ (a : List ℕ). NotAfter a (ranked x u other)) rank
+              (f .first (entryOf (problemOf (x u)) u other) (entry-in x (variantCount t) u other below n));
         })
+        b
         (answer ∙ ap₂ (λ (n s : ℕ). Found n s (pairCount p t)) number end)
-        (timetable ∙ f .keeps .starts-are ∙ ap (λ (e : Entry). starts (e .problem) places (e .ends)) (sym is))
+        (timetable ∙ tail-eq-of-cons-eq (tail-eq-of-cons-eq rank))

@@ -6,26 +6,32 @@ ghost use Rattle.term.specs.Term.{Term};
 ghost use Rattle.judge.specs.Judge.{accepts};
 ghost use Rattle.judge.specs.Campaign.{HoldsPlan};
 ghost use Rattle.answers.specs.Count.{countBy, countOf};
-ghost use Rattle.answers.specs.Listed.{ListsBy, ListOf};
-ghost use Rattle.answers.specs.Shortest.{BestBy, BestOf};
+ghost use Rattle.answers.specs.Listed.{listBy, listOf};
+ghost use Rattle.answers.specs.Shortest.{bestBy, bestOf};
+ghost use Rattle.tally.specs.Seen.{kept, noTally};
 ghost use Rattle.sweep.specs.Swept.{swept};
 use answers::Best;
 use answers::BestAnswer;
 use answers::CountAnswer;
 use answers::ListAnswer;
+use candidates::NEVER;
 use judge::Campaign;
 use parser::Verdict;
 use plan::Refusal;
-use search::Tally;
+use tally::Tally;
 use timetable::Timetable;
 
-// The sweep without rows: one cell has no room for any.
-fn tallied(campaign: Campaign, cap: u32) -> Tally
+// COUNT and LIST keep no schedule: none ends by tick 0.
+const NONE: u32 = 0;
+
+// The sweep without rows: one cell has no room for any. A schedule that ends by `end` may be kept.
+fn tallied(campaign: Campaign, end: u32, cap: u32) -> Tally
     requires { ⌜ ((t : Term) × HoldsPlan campaign t) ⌝ }
-    ensures { λ r. ⌜ ((t : Term) → HoldsPlan campaign t → r ≡ swept campaign t cap (0 ∷ []) .tally) ⌝ }
+    ensures { λ r.
+        ⌜ ((t : Term) → HoldsPlan campaign t → r ≡ swept campaign t cap (kept (noTally end) (0 ∷ [])) .tally) ⌝ }
 {
     let mut cell = [0u16; 1];
-    sweep::sweep(campaign, cap, &mut cell)
+    sweep::sweep(campaign, Tally::none(end), cap, &mut cell)
 }
 
 // COUNT of an accepted plan.
@@ -33,21 +39,23 @@ fn counted(campaign: Campaign, cap: u32) -> CountAnswer
     requires { ⌜ ((t : Term) × HoldsPlan campaign t) ⌝ }
     ensures { λ r. ⌜ ((t : Term) → HoldsPlan campaign t → r ≡ countBy (accepts (planOf (campaign .tables)) t) cap) ⌝ }
 {
-    let tally = tallied(campaign, cap);
+    let tally = tallied(campaign, NONE, cap);
     if (cap as u64) < tally.count {
         return CountAnswer::Refused(Refusal::OverCap);
     }
     CountAnswer::Counted(tally.count)
 }
 
-// LIST of an accepted plan: nothing is written before it is known that all rows fit.
+// LIST of an accepted plan: nothing is written before it is known that all rows fit. They are written as they are found,
+// then sorted where they lie.
 fn listed(campaign: Campaign, cap: u32, area: &mut [u16]) -> ListAnswer
     requires { ⌜ ((t : Term) × HoldsPlan campaign t) ⌝ }
     ensures { λ r.
         ⌜ ((t : Term) → HoldsPlan campaign t
-        → ListsBy (accepts (planOf (campaign .tables)) t) cap (now (area .entry)) r (now (area .exit))) ⌝ }
+        → record { answer = r; area = now (area .exit) }
+        ≡ listBy (accepts (planOf (campaign .tables)) t) cap (now (area .entry))) ⌝ }
 {
-    let tally = tallied(campaign, cap);
+    let tally = tallied(campaign, NONE, cap);
     let rows = tally.count;
     if (cap as u64) < rows {
         return ListAnswer::Refused(Refusal::OverCap);
@@ -57,16 +65,17 @@ fn listed(campaign: Campaign, cap: u32, area: &mut [u16]) -> ListAnswer
     if (area.len() as u64) < needed {
         return ListAnswer::Refused(Refusal::AreaTooShort(needed));
     }
-    sweep::sweep(campaign, cap, area);
+    sweep::sweep(campaign, Tally::none(NONE), cap, area);
+    sorting::sort_rows(area, tables.acts + 1, rows as usize);
     ListAnswer::Listed(rows)
 }
 
 // BEST of an accepted plan: the latest end of an active session is its makespan.
 fn shortest(campaign: Campaign, cap: u32) -> Best
     requires { ⌜ ((t : Term) × HoldsPlan campaign t) ⌝ }
-    ensures { λ r. ⌜ ((t : Term) → HoldsPlan campaign t → BestBy (accepts (planOf (campaign .tables)) t) cap r) ⌝ }
+    ensures { λ r. ⌜ ((t : Term) → HoldsPlan campaign t → r ≡ bestBy (accepts (planOf (campaign .tables)) t) cap) ⌝ }
 {
-    let tally = tallied(campaign, cap);
+    let tally = tallied(campaign, NEVER, cap);
     if (cap as u64) < tally.count {
         return Best {
             answer: BestAnswer::Refused(Refusal::OverCap),
@@ -97,9 +106,11 @@ pub fn count(file: &[u8], cap: u32) -> CountAnswer
     }
 }
 
-// LIST: the rows of COUNT's pairs, from the front of the area.
+// LIST: the rows of COUNT's pairs in their order, from the front of the area.
 pub fn list(file: &[u8], cap: u32, area: &mut [u16]) -> ListAnswer
-    ensures { λ r. ⌜ ListOf (now (file .entry)) cap (now (area .entry)) r (now (area .exit)) ⌝ }
+    ensures { λ r.
+        ⌜ record { answer = r; area = now (area .exit) }
+        ≡ listOf (now (file .entry)) cap (now (area .entry)) ⌝ }
 {
     let judged = judge::judge(file);
     let verdict = judged.verdict;
@@ -110,9 +121,9 @@ pub fn list(file: &[u8], cap: u32, area: &mut [u16]) -> ListAnswer
     }
 }
 
-// BEST: one of COUNT's pairs that is shortest, and COUNT's number.
+// BEST: the first of COUNT's pairs that are shortest, and COUNT's number. What holds of it is the theorem `demand-3`.
 pub fn best(file: &[u8], cap: u32) -> Best
-    ensures { λ r. ⌜ BestOf (now (file .entry)) cap r ⌝ }
+    ensures { λ r. ⌜ r ≡ bestOf (now (file .entry)) cap ⌝ }
 {
     let judged = judge::judge(file);
     let verdict = judged.verdict;

@@ -2,9 +2,10 @@
 use mathlib.Core.Bool.{Bool, true, _&&_}
 use mathlib.Core.List.{List, [], _∷_, _++_, List·Memᴰ, List·Memᴰ·cases-cons, List·Memᴰ·not-nil}
 use mathlib.Core.Logic.{⊎-elim}
-use mathlib.Core.Path.{_≡_, refl, sym, ap, subst, _∙_}
+use mathlib.Core.Path.{_≡_, refl, sym, subst, _∙_}
 use lib.ListN.{length, drop}
-use Rattle.base.specs.Lists.{every, gather}
+use Rattle.base.specs.Lists.{every, keep, gather, cellsOf}
+use Rattle.base.specs.Order.{sorted}
 use Rattle.base.proofs.Bools.{and-left, and-right}
 use Rattle.format.specs.Parse.{parse, planLines, aLine, tested, theLines, theEnd}
 use Rattle.format.specs.Lines.{matched, digits, isValue, decimal, filled}
@@ -17,7 +18,7 @@ use Rattle.read.proofs.Model.{readBy, read-by}
 use Rattle.format.specs.Lines
 use Rattle.format.specs.Text.{text, actLines, nodeLines}
 use Rattle.base.specs.Below.{everyBelow, sumBelow, maxBelow}
-use Rattle.schedule.specs.Schedule.{feasible, placed, inOrder, withinCapacity, load, latestEnd}
+use Rattle.schedule.specs.Schedule.{feasible, placed, inOrder, withinCapacity, load, latestEnd, earliestStart, makespan}
 use Rattle.variant.specs.Precedence.{precedes}
 use Rattle.variant.specs.Project.{projectOf}
 use Rattle.variant.specs.Written.{written, variantPlan, dissolved, joined}
@@ -25,60 +26,59 @@ use Rattle.variant.specs.Timetable.{isSession, isMarked}
 use Rattle.write.specs.Answer.{writeOf}
 use Rattle.write.specs.declared.WriteAnswer.the-variants.{Written}
 use Rattle.inspect.specs.Answer.{checkOf}
+use Rattle.answers.specs.Shortest.{noBest}
+use Rattle.answers.specs.declared.BestAnswer.the-variants.{Found}
 use Rattle.campaigns.specs.Table.{Row, reads, has-variants, writes, checks, counts, lists, spans, finds, stops}
-use Rattle.campaigns.specs.Table.{Holds, table, lent}
+use Rattle.campaigns.specs.Table.{Holds, table, timetable, sevens, lent}
 use Rattle.sets.specs.Sets
 use Rattle.sets.specs.Sets.{has, meet}
 use Rattle.scan.specs.Model.{leastBelow, ready, earliest, finish, isOpen, keyOf, key, isChoice, freeze, branches}
 use Rattle.scan.specs.Model.{problemOf, leaves, root, scanned, startOf, starts}
 use Rattle.variant.specs.Tables.{setOf, tablesOf}
-use Rattle.campaigns.proofs.Searched.{total, countModel, count-is, listModel, list-is, spansModel, hasModel}
-use Rattle.campaigns.proofs.Searched.{spans-is}
+use Rattle.campaigns.proofs.Searched.{found, countModel, count-is, listModel, list-is, bestModel, best-is}
+use Rattle.campaigns.proofs.Searched.{spansModel, hasModel, spans-is}
 use Rattle.campaigns.proofs.Variants.{variantsBy, variants-are}
-use Rattle.campaigns.proofs.Shortest.{shown, refused, sameShown, shown-same, AnswersAs, bestModel, best-is}
-use Rattle.campaigns.proofs.Shortest.{shortestSpan, shortestVariants}
 use Rattle.campaigns.proofs.Tests.{sameNumber, number-same, sameList, list-same, sameCount, count-same}
-use Rattle.campaigns.proofs.Tests.{sameListing, listing-same, sameRead, read-same, sameOutcome, outcome-same}
-use Rattle.campaigns.proofs.Tests.{sameCheck, check-same}
+use Rattle.campaigns.proofs.Tests.{sameRead, read-same, sameWrite, write-same, sameCheck, check-same}
+use Rattle.campaigns.proofs.Tests.{sameListing, listing-same, sameBest, best-same, sameOutcome, outcome-same}
 
 abbrev test : Row → Bool
 test (reads s answer) = sameRead (readBy s) answer
 test (has-variants s n) = sameNumber (variantsBy s) n
 test (writes s v bytes) =
-    sameOutcome (writeOf s v lent)
+    sameOutcome sameWrite (writeOf s v lent)
     (record { answer = Written (length bytes); area = bytes ++ drop (length bytes) lent })
 test (checks s v starts answer) = sameCheck (checkOf s v starts) answer
 test (counts s cap answer) = sameCount (countModel s cap) answer
-test (lists s cap cells answer) = sameListing (listModel s cap cells) answer
+test (lists s cap cells answer rows) =
+    sameOutcome sameListing (listModel s cap (sevens cells))
+    (record { answer = answer; area = cellsOf rows ++ drop (length (cellsOf rows)) (sevens cells) })
 test (spans s v makespans) = hasModel s v && sameList (spansModel s v) makespans
-test (finds s cap variants span count) = sameShown (bestModel s cap) (shown variants span count)
-test (stops s cap r) = sameShown (bestModel s cap) (refused r)
+test (finds s cap v span count starts) =
+    sameBest (bestModel s cap)
+    (record { answer = Found v span count; timetable = record { starts = timetable starts } })
+test (stops s cap r) = sameBest (bestModel s cap) (noBest r)
 
 test-holds : (row : Row) → test row ≡ true → Holds row
 test-holds (reads s answer) e = read-by s ∙ read-same (readBy s) answer e
 test-holds (has-variants s n) e = variants-are s n (number-same (variantsBy s) n e)
-test-holds (writes s v bytes) e = outcome-same (writeOf s v lent) _ e
+test-holds (writes s v bytes) e = outcome-same sameWrite write-same (writeOf s v lent) _ e
 test-holds (checks s v starts answer) e = check-same (checkOf s v starts) answer e
 test-holds (counts s cap answer) e = count-is s cap ∙ count-same (countModel s cap) answer e
-test-holds (lists s cap cells answer) e =
-    λ before after given size listing.
-    list-is s cap before given after listing
-    ∙ ap (listModel s cap) size
-    ∙ listing-same (listModel s cap cells) answer e
+test-holds (lists s cap cells answer rows) e =
+    list-is s cap (sevens cells) ∙ outcome-same sameListing listing-same (listModel s cap (sevens cells)) _ e
 test-holds (spans s v makespans) e =
     spans-is s v makespans (and-left (hasModel s v) _ e)
     (list-same (spansModel s v) makespans (and-right (hasModel s v) _ e))
-test-holds (finds s cap variants span count) e =
-    λ best given. subst (λ x. AnswersAs x best) (shown-same (bestModel s cap) _ e) (best-is s cap best given)
-test-holds (stops s cap r) e =
-    λ best given. subst (λ x. AnswersAs x best) (shown-same (bestModel s cap) _ e) (best-is s cap best given)
+test-holds (finds s cap v span count starts) e = best-is s cap ∙ best-same (bestModel s cap) _ e
+test-holds (stops s cap r) e = best-is s cap ∙ best-same (bestModel s cap) _ e
 
 all-pass : every test table ≡ true
 unfolding table readBy variantsBy parse planLines aLine tested theLines theEnd matched digits isValue decimal termOf
     forest place size firsts others activities member some-of count clash share writeOf checkOf judge twice repeats
     variants paired variantCount written variantPlan dissolved joined text actLines nodeLines filled Lines.numeral
-    nodes isSession isMarked feasible placed inOrder withinCapacity load latestEnd everyBelow sumBelow maxBelow
-    projectOf precedes countModel listModel spansModel hasModel bestModel shortestSpan shortestVariants total
+    nodes isSession isMarked feasible placed inOrder withinCapacity load latestEnd earliestStart makespan everyBelow sumBelow maxBelow
+    projectOf precedes countModel listModel spansModel hasModel bestModel found sorted keep cellsOf
     problemOf tablesOf setOf gather scanned leaves branches root freeze isChoice key keyOf leastBelow isOpen finish
     earliest ready Sets.size has meet starts startOf
 all-pass = refl

@@ -2,5 +2,4 @@
 pub mod Tests
 pub mod Variants
 pub mod Searched
-pub mod Shortest
 pub mod Campaigns

@@ -1,110 +1,160 @@
--- COUNT, LIST and the makespans of a variant, as the search's model computes them.
+-- COUNT, LIST, BEST and the makespans of a variant, as the search's model computes them: the rows that it finds are the
+-- pairs, once they are sorted.
 use Prim.Native.Nat.{ℕ, suc, _*_, _<_}
 use mathlib.Core.Bool.{Bool, true, false, false≢true}
+use mathlib.Core.List.{List, [], _++_, map, Pairwise·imp, Perm·symm}
+use mathlib.Core.Path.{_≡_, refl, sym, ap, _∙_}
 use borrow.Author.Tests.{ltb-true}
-use mathlib.Core.List.{List, [], _∷_, map, Perm, Perm·map, Perm·symm, List·Memᴰ, List·Memᴰ·head, List·Memᴰ·tail}
-use mathlib.Core.Path.{_≡_, refl, sym, ap, ap₂, _∙_, subst}
-use lib.Dec.{leb, ltb}
-use lib.ListN.{length}
+use lib.Dec.{eqb, leb, ltb}
+use lib.ListN.{length, getD, drop}
+use Rattle.base.specs.Lists.{keep, leastOf, cellsOf}
+use Rattle.base.specs.Order.{sorted}
+use Rattle.base.proofs.Order.{before-not-after, sorted-is}
+use Rattle.plan.specs.Outcome.{Outcome}
 use Rattle.plan.specs.Plan.{Plan}
 use Rattle.plan.specs.declared.Refusal.the-variants.{OverCap, AreaTooShort}
 use Rattle.term.specs.Term.{Term}
+use Rattle.term.specs.Valid.{Valid}
 use Rattle.term.specs.Variants.{variantCount}
+use Rattle.schedule.specs.Project.{Project}
 use Rattle.schedule.specs.Schedule.{makespan}
 use Rattle.schedule.specs.Sessions.{sessions, startsOf}
+use Rattle.schedule.proofs.Box.{sessions-ordered}
 use Rattle.timetable.specs.Mark.{mark}
-use Rattle.scan.specs.Model.{starts, scanOf, problemOf, lastEnd}
+use Rattle.scan.specs.Model.{starts, scanOf, problemOf}
 use Rattle.variant.specs.Project.{projectOf, variantAt}
-use Rattle.variant.specs.Pairs.{pairCount}
+use Rattle.variant.specs.Pairs.{pairs, pairCount}
+use Rattle.variant.specs.Tables.{tablesOf}
+use Rattle.variant.specs.Timetable.{timetableOf}
+use Rattle.variant.proofs.Tables.{tables-hold}
 use Rattle.judge.specs.Judge.{Verdict, accepts, refuses, judge}
-use Rattle.term.specs.Valid.{Valid}
 use Rattle.judge.proofs.Accepts.{accepted-valid}
 use Rattle.answers.specs.Count.{countOf, countBy, countWithin}
-use Rattle.answers.specs.Listed.{ListOf, ListsBy, Lists}
+use Rattle.answers.specs.Listed.{listWithin, listBy, listOf}
+use Rattle.answers.specs.Shortest.{rowVariant, rowStarts, rowSpan, shortestPairs, firstShortest, noBest, bestWithin}
+use Rattle.answers.specs.Shortest.{bestBy, bestOf}
+use Rattle.answers.specs.declared.Best.{Best}
+use Rattle.answers.specs.declared.BestAnswer.the-variants.{Found}
 use Rattle.answers.specs.declared.CountAnswer.{CountAnswer}
 use Rattle.answers.specs.declared.CountAnswer.the-variants as CountAnswers
 use Rattle.answers.specs.declared.ListAnswer.{ListAnswer}
-use Rattle.answers.specs.declared.ListAnswer.the-variants as ListAnswers
-use Rattle.variant.specs.Tables.{tablesOf}
-use Rattle.variant.proofs.Tables.{tables-hold}
-use Rattle.plan_exact.proofs.Rows.{allRows, rows-count}
+use Rattle.answers.specs.declared.ListAnswer.the-variants.{Listed, Refused}
+use Rattle.plan_exact.proofs.Rows.{allRows, rows-sorted}
 use Rattle.plan_exact.proofs.Variant.{chosen}
-use Rattle.plan_exact.proofs.Found.{variant-perm, variant-span}
-use Rattle.base.proofs.Lists.{map-map}
+use Rattle.plan_exact.proofs.Found.{variant-perm}
 use Rattle.campaigns.specs.Table.{Spans}
 
--- The schedules of all variants, counted.
-unfoldable pub total : Plan → Term → ℕ
-total p t = length (allRows p t (λ v. tablesOf p (variantAt t v)))
+-- The rows of all variants.
+unfoldable pub found : Plan → Term → List (List ℕ)
+found p t = sorted (allRows p t (λ v. tablesOf p (variantAt t v)))
 
-pub total-is : (p : Plan) (t : Term) → Valid p t → pairCount p t ≡ total p t
-unfolding total
-total-is p t valid =
-    sym (rows-count p t valid (λ v. tablesOf p (variantAt t v)) (λ v l. tables-hold p t v (chosen p t v valid l)))
+found-is : (s : List ℕ) (p : Plan) (t : Term) → judge s ≡ accepts p t → pairs p t ≡ found p t
+unfolding found
+found-is s p t e =
+    let valid : Valid p t = accepted-valid s p t e .0 in
+    sym (rows-sorted p t valid (λ v. tablesOf p (variantAt t v)) (λ v l. tables-hold p t v (chosen p t v valid l)))
 
+-- COUNT, by the rows.
 abbrev countVerdict : Verdict → ℕ → CountAnswer
-countVerdict (accepts p t) cap = countWithin (leb (total p t) cap) (total p t)
+countVerdict (accepts p t) cap = countWithin (leb (length (found p t)) cap) (length (found p t))
 countVerdict (refuses r) cap = CountAnswers.Refused r
 
 unfoldable pub countModel : List ℕ → ℕ → CountAnswer
 countModel s cap = countVerdict (judge s) cap
 
 count-verdict : (s : List ℕ) (cap : ℕ) (o : Verdict) → judge s ≡ o → countBy o cap ≡ countVerdict o cap
+unfolding pairCount
 count-verdict s cap (accepts p t) e =
-    ap (λ (n : ℕ). countWithin (leb n cap) n) (total-is p t (accepted-valid s p t e .0))
+    ap (λ (rows : List (List ℕ)). countWithin (leb (length rows) cap) (length rows)) (found-is s p t e)
 count-verdict s cap (refuses r) e = refl
 
 pub count-is : (s : List ℕ) (cap : ℕ) → countOf s cap ≡ countModel s cap
 unfolding countOf countModel
 count-is s cap = count-verdict s cap (judge s) refl
 
--- LIST's answer.
-abbrev listed : Bool → Bool → ℕ → ℕ → ListAnswer
-listed false fits n cells = ListAnswers.Refused OverCap
-listed true false n cells = ListAnswers.Refused (AreaTooShort cells)
-listed true true n cells = ListAnswers.Listed n
+-- LIST, by rows of so many cells.
+abbrev listRows : Bool → Bool → List (List ℕ) → ℕ → List ℕ → Outcome ListAnswer
+listRows false fits rows width area = record { answer = Refused OverCap; area = area }
+listRows true false rows width area = record { answer = Refused (AreaTooShort (length rows * width)); area = area }
+listRows true true rows width area =
+    record { answer = Listed (length rows); area = cellsOf rows ++ drop (length rows * width) area }
 
-abbrev listVerdict : Verdict → ℕ → ℕ → ListAnswer
-listVerdict (accepts p t) cap size =
-    listed (leb (total p t) cap) (leb (total p t * suc (length (p .activities))) size) (total p t)
-    (total p t * suc (length (p .activities)))
-listVerdict (refuses r) cap size = ListAnswers.Refused r
+abbrev listed : Plan → ℕ → List ℕ → List (List ℕ) → Outcome ListAnswer
+listed p cap area rows =
+    let width : ℕ = suc (length (p .activities)) in
+    listRows (leb (length rows) cap) (leb (length rows * width) (length area)) rows width area
 
-unfoldable pub listModel : List ℕ → ℕ → ℕ → ListAnswer
-listModel s cap size = listVerdict (judge s) cap size
+abbrev listVerdict : Verdict → ℕ → List ℕ → Outcome ListAnswer
+listVerdict (accepts p t) cap area = listed p cap area (found p t)
+listVerdict (refuses r) cap area = record { answer = Refused r; area = area }
 
-list-cases : (a b : Bool) (p : Plan) (t : Term) (before : List ℕ) (given : ListAnswer) (after : List ℕ)
-    → Lists a b p t before given after → given ≡ listed a b (pairCount p t)
-    (pairCount p t * suc (length (p .activities)))
-list-cases false b p t before given after h = h .0
-list-cases true false p t before given after h = h .0
-list-cases true true p t before given after h = h .0
+unfoldable pub listModel : List ℕ → ℕ → List ℕ → Outcome ListAnswer
+listModel s cap area = listVerdict (judge s) cap area
 
-list-verdict : (s : List ℕ) (cap : ℕ) (before : List ℕ) (given : ListAnswer) (after : List ℕ) (o : Verdict)
-    → judge s ≡ o
-    → ListsBy o cap before given after → given ≡ listVerdict o cap (length before)
-list-verdict s cap before given after (accepts p t) e h =
-    list-cases (leb (pairCount p t) cap) (leb (pairCount p t * suc (length (p .activities))) (length before)) p t
-    before given after h
-    ∙ ap
-    (λ (n : ℕ).
-    listed (leb n cap) (leb (n * suc (length (p .activities))) (length before)) n (n * suc (length (p .activities))))
-    (total-is p t (accepted-valid s p t e .0))
-list-verdict s cap before given after (refuses r) e h = h .0
+list-rows : (a b : Bool) (p : Plan) (t : Term) (area : List ℕ)
+    → listWithin a b p t area ≡ listRows a b (pairs p t) (suc (length (p .activities))) area
+unfolding pairCount
+list-rows false b p t area = refl
+list-rows true false p t area = refl
+list-rows true true p t area = refl
 
-pub list-is : (s : List ℕ) (cap : ℕ) (before : List ℕ) (given : ListAnswer) (after : List ℕ)
-    → ListOf s cap before given after
-    → given ≡ listModel s cap (length before)
-unfolding ListOf listModel
-list-is s cap before given after h = list-verdict s cap before given after (judge s) refl h
+list-verdict : (s : List ℕ) (cap : ℕ) (area : List ℕ) (o : Verdict) → judge s ≡ o
+    → listBy o cap area ≡ listVerdict o cap area
+unfolding pairCount
+list-verdict s cap area (accepts p t) e =
+    list-rows (leb (length (pairs p t)) cap) (leb (length (pairs p t) * suc (length (p .activities))) (length area))
+    p t area
+    ∙ ap (listed p cap area) (found-is s p t e)
+list-verdict s cap area (refuses r) e = refl
 
-map-same : {f g : List ℕ → ℕ} (l : List (List ℕ)) → ((x : List ℕ) → List·Memᴰ x l → f x ≡ g x) → map f l ≡ map g l
-map-same [] h = refl
-map-same (x ∷ xs) h = ap₂ _∷_ (h x (List·Memᴰ·head refl)) (map-same xs (λ y m. h y (List·Memᴰ·tail m)))
+pub list-is : (s : List ℕ) (cap : ℕ) (area : List ℕ) → listOf s cap area ≡ listModel s cap area
+unfolding listOf listModel
+list-is s cap area = list-verdict s cap area (judge s) refl
+
+-- BEST, by the rows.
+abbrev firstOf : Plan → Term → List (List ℕ) → List ℕ
+firstOf p t rows = getD (keep (λ row. eqb (rowSpan p t row) (leastOf (map (rowSpan p t) rows))) rows) 0 []
+
+abbrev bestRows : Bool → Plan → Term → List (List ℕ) → Best
+bestRows true p t rows =
+    let row : List ℕ = firstOf p t rows in
+    record {
+      answer = Found (rowVariant row) (rowSpan p t row) (length rows);
+      timetable = record { starts = timetableOf p (rowStarts row) };
+    }
+bestRows false p t rows = noBest OverCap
+
+abbrev bestVerdict : Verdict → ℕ → Best
+bestVerdict (accepts p t) cap = bestRows (leb (length (found p t)) cap) p t (found p t)
+bestVerdict (refuses r) cap = noBest r
+
+unfoldable pub bestModel : List ℕ → ℕ → Best
+bestModel s cap = bestVerdict (judge s) cap
+
+best-rows : (a : Bool) (p : Plan) (t : Term) → bestWithin a p t ≡ bestRows a p t (pairs p t)
+unfolding pairCount firstShortest shortestPairs
+best-rows true p t = refl
+best-rows false p t = refl
+
+best-verdict : (s : List ℕ) (cap : ℕ) (o : Verdict) → judge s ≡ o → bestBy o cap ≡ bestVerdict o cap
+unfolding pairCount
+best-verdict s cap (accepts p t) e =
+    best-rows (leb (length (pairs p t)) cap) p t
+    ∙ ap (λ (rows : List (List ℕ)). bestRows (leb (length rows) cap) p t rows) (found-is s p t e)
+best-verdict s cap (refuses r) e = refl
+
+pub best-is : (s : List ℕ) (cap : ℕ) → bestOf s cap ≡ bestModel s cap
+unfolding bestOf bestModel
+best-is s cap = best-verdict s cap (judge s) refl
 
 -- The makespans of variant v, and whether the file is accepted and has it.
+abbrev variantRows : Plan → Term → ℕ → List (List ℕ)
+variantRows p t v =
+    let x = tablesOf p (variantAt t v) in sorted (map (starts (problemOf x) (length (p .activities))) (scanOf x))
+
 abbrev spansVerdict : Verdict → ℕ → List ℕ
-spansVerdict (accepts p t) v = map lastEnd (scanOf (tablesOf p (variantAt t v)))
+spansVerdict (accepts p t) v =
+    map (λ row. makespan (projectOf p (variantAt t v)) (startsOf row)) (variantRows p t v)
 spansVerdict (refuses r) v = []
 
 unfoldable pub spansModel : List ℕ → ℕ → List ℕ
@@ -117,32 +167,28 @@ hasVerdict (refuses r) v = false
 unfoldable pub hasModel : List ℕ → ℕ → Bool
 hasModel s v = hasVerdict (judge s) v
 
-module _ (p : Plan) (t : Term) (valid : Valid p t) (v : ℕ) (l : v < variantCount t) where
-  spans-are :
-      Perm
-      (map (λ row. makespan (projectOf p (variantAt t v)) (startsOf row)) (sessions (projectOf p (variantAt t v)) mark))
-      (map lastEnd (scanOf (tablesOf p (variantAt t v))))
-  spans-are =
-      let c = chosen p t v valid l in
-      let x = tablesOf p (variantAt t v) in
-      let held = tables-hold p t v c in
-      let perm =
-      Perm·map (λ row. makespan (projectOf p (variantAt t v)) (startsOf row)) (variant-perm p t v c x held) in
-      subst
-      (Perm
-      (map (λ row. makespan (projectOf p (variantAt t v)) (startsOf row))
-      (sessions (projectOf p (variantAt t v)) mark)))
-      (map-map (λ row. makespan (projectOf p (variantAt t v)) (startsOf row))
-      (starts (problemOf x) (length (p .activities))) (scanOf x)
-      ∙ map-same (scanOf x) (λ ends m. sym (variant-span p t v c x held ends m)))
-      (Perm·symm perm)
+variant-rows : (p : Plan) (t : Term) → Valid p t → (v : ℕ) → v < variantCount t
+    → sessions (projectOf p (variantAt t v)) mark ≡ variantRows p t v
+variant-rows p t valid v l =
+    let P : Project = projectOf p (variantAt t v) in
+    let c = chosen p t v valid l in
+    sorted-is (sessions P mark) _ (Pairwise·imp before-not-after (sessions-ordered P mark))
+    (Perm·symm (variant-perm p t v c (tablesOf p (variantAt t v)) (tables-hold p t v c)))
 
 spans-verdict : (s : List ℕ) (v : ℕ) (ms : List ℕ) (o : Verdict) → judge s ≡ o → hasVerdict o v ≡ true
     → spansVerdict o v ≡ ms → Spans s v ms
 spans-verdict s v ms (accepts p t) e h m =
-    let valid = accepted-valid s p t e .0 in
     let l = ltb-true v (variantCount t) h in
-    record { plan = p; term = t; accepted = e; within = l; same = subst (Perm _) m (spans-are p t valid v l) }
+    record {
+      plan = p;
+      term = t;
+      accepted = e;
+      within = l;
+      same =
+          ap (map (λ row. makespan (projectOf p (variantAt t v)) (startsOf row)))
+          (variant-rows p t (accepted-valid s p t e .0) v l)
+          ∙ m;
+    }
 spans-verdict s v ms (refuses r) e h m = absurd (false≢true h)
 
 pub spans-is : (s : List ℕ) (v : ℕ) (ms : List ℕ) → hasModel s v ≡ true → spansModel s v ≡ ms → Spans s v ms

@@ -8,6 +8,7 @@ use mathlib.Core.Path.{_≡_, refl, sym, ap, ap₂, _∙_}
 use borrow.Author.Tests.{eqb-true}
 use lib.Dec.{eqb}
 use lib.ListN.{getD}
+use Rattle.plan.specs.Outcome.{Outcome}
 use Rattle.plan.specs.Refusals.{numberOf, figureOf}
 use Rattle.plan.specs.declared.Refusal.{Refusal}
 use Rattle.plan.specs.declared.Refusal.the-variants.{Length, Form, Range, GroupOfOne, NotOneTerm, Twice}
@@ -15,11 +16,13 @@ use Rattle.plan.specs.declared.Refusal.the-variants.{TooManyVariants, NoSuchVar
 use Rattle.read.specs.declared.ReadAnswer.{ReadAnswer}
 use Rattle.read.specs.declared.ReadAnswer.the-variants.{Read, Refused}
 use Rattle.base.proofs.Bools.{and-left, and-right}
-use Rattle.write.specs.Answer.{Outcome}
 use Rattle.write.specs.declared.WriteAnswer.{WriteAnswer}
 use Rattle.write.specs.declared.WriteAnswer.the-variants as Write
 use Rattle.answers.specs.declared.CountAnswer.{CountAnswer}
 use Rattle.answers.specs.declared.CountAnswer.the-variants as Count
+use Rattle.answers.specs.declared.Best.{Best}
+use Rattle.answers.specs.declared.BestAnswer.{BestAnswer}
+use Rattle.answers.specs.declared.BestAnswer.the-variants as Shortest
 use Rattle.answers.specs.declared.ListAnswer.{ListAnswer}
 use Rattle.answers.specs.declared.ListAnswer.the-variants as Listing
 use Rattle.inspect.specs.declared.CheckAnswer.{CheckAnswer}
@@ -128,17 +131,8 @@ write-whole (Write.Refused r) = refl
 abbrev pub sameWrite : WriteAnswer → WriteAnswer → Bool
 sameWrite a b = sameEither (splitWrite a) (splitWrite b)
 
-write-same : (a b : WriteAnswer) → sameWrite a b ≡ true → a ≡ b
+pub write-same : (a b : WriteAnswer) → sameWrite a b ≡ true → a ≡ b
 write-same = split-same splitWrite joinWrite write-whole
-
-abbrev pub sameOutcome : Outcome → Outcome → Bool
-sameOutcome a b = sameWrite (a .answer) (b .answer) && sameList (a .area) (b .area)
-
-pub outcome-same : (a b : Outcome) → sameOutcome a b ≡ true → a ≡ b
-outcome-same a b e =
-    let x = write-same (a .answer) (b .answer) (and-left _ _ e) in
-    let y = list-same (a .area) (b .area) (and-right (sameWrite (a .answer) (b .answer)) _ e) in
-    λ i. record { answer = x i; area = y i }
 
 abbrev pub sameCheck : CheckAnswer → CheckAnswer → Bool
 sameCheck (Check.Checked a) (Check.Checked b) = Bool·beq a b
@@ -193,3 +187,41 @@ sameListing a b = sameEither (splitListing a) (splitListing b)
 
 pub listing-same : (a b : ListAnswer) → sameListing a b ≡ true → a ≡ b
 listing-same = split-same splitListing joinListing listing-whole
+
+-- Answers with the areas that they leave.
+module _ {A : Type 0} (same : A → A → Bool) where
+  abbrev pub sameOutcome : Outcome A → Outcome A → Bool
+  sameOutcome a b = same (a .answer) (b .answer) && sameList (a .area) (b .area)
+
+  pub outcome-same : ((a b : A) → same a b ≡ true → a ≡ b) → (a b : Outcome A) → sameOutcome a b ≡ true → a ≡ b
+  outcome-same is-same a b e =
+      let x = is-same (a .answer) (b .answer) (and-left _ _ e) in
+      let y = list-same (a .area) (b .area) (and-right (same (a .answer) (b .answer)) _ e) in
+      λ i. record { answer = x i; area = y i }
+
+abbrev sameFound : BestAnswer → BestAnswer → Bool
+sameFound (Shortest.Found v n k) (Shortest.Found v′ n′ k′) = eqb v v′ && (eqb n n′ && eqb k k′)
+sameFound (Shortest.Found v n k) (Shortest.Refused r) = false
+sameFound (Shortest.Refused r) (Shortest.Found v n k) = false
+sameFound (Shortest.Refused r) (Shortest.Refused r′) = sameRefusal r r′
+
+found-same : (a b : BestAnswer) → sameFound a b ≡ true → a ≡ b
+found-same (Shortest.Found v n k) (Shortest.Found v′ n′ k′) e =
+    let rest = and-right (eqb v v′) _ e in
+    let ev = eqb-true v v′ (and-left _ _ e) in
+    let en = eqb-true n n′ (and-left _ _ rest) in
+    let ek = eqb-true k k′ (and-right (eqb n n′) _ rest) in
+    cc
+found-same (Shortest.Found v n k) (Shortest.Refused r) e = absurd (false≢true e)
+found-same (Shortest.Refused r) (Shortest.Found v n k) e = absurd (false≢true e)
+found-same (Shortest.Refused r) (Shortest.Refused r′) e = ap Shortest.Refused (refusal-same r r′ e)
+
+abbrev pub sameBest : Best → Best → Bool
+sameBest a b = sameFound (a .answer) (b .answer) && sameList (a .timetable .starts) (b .timetable .starts)
+
+pub best-same : (a b : Best) → sameBest a b ≡ true → a ≡ b
+best-same a b e =
+    let x = found-same (a .answer) (b .answer) (and-left _ _ e) in
+    let y =
+    list-same (a .timetable .starts) (b .timetable .starts) (and-right (sameFound (a .answer) (b .answer)) _ e) in
+    λ i. record { answer = x i; timetable = record { starts = y i } }

@@ -3,11 +3,12 @@ use Prim.Native.Char.{code}
 use Prim.Native.Nat.{ℕ, zero, suc, _-_, _<_}
 use Prim.Native.String.{String}
 use mathlib.Core.Bool.{true, false}
-use mathlib.Core.List.{List, [], _∷_, _++_, map, List·Memᴰ, Perm}
+use mathlib.Core.List.{List, [], _∷_, _++_, map}
 use mathlib.Core.Option.{some}
 use mathlib.Core.Path.{_≡_}
 use lib.Dec.{eqb}
 use lib.ListN.{length, drop, replicate}
+use Rattle.base.specs.Lists.{cellsOf}
 use Rattle.plan.specs.declared.Refusal.{Refusal}
 use Rattle.plan.specs.declared.Refusal.the-variants.{Form, Range, GroupOfOne, Twice, TooManyVariants}
 use Rattle.plan.specs.declared.Refusal.the-variants.{NoSuchVariant, OverCap, AreaTooShort}
@@ -20,11 +21,9 @@ use Rattle.schedule.specs.Sessions.{sessions, startsOf}
 use Rattle.variant.specs.Project.{projectOf, variantAt}
 use Rattle.judge.specs.Judge.{accepts, judge}
 use Rattle.answers.specs.Count.{countOf}
-use Rattle.answers.specs.Listed.{ListOf}
-use Rattle.answers.specs.Shortest.{BestOf}
-use Rattle.answers.specs.declared.Best.{Best}
+use Rattle.answers.specs.Listed.{listOf}
+use Rattle.answers.specs.Shortest.{noBest, bestOf}
 use Rattle.answers.specs.declared.BestAnswer.the-variants.{Found}
-use Rattle.answers.specs.declared.BestAnswer.the-variants as BestAnswers
 use Rattle.answers.specs.declared.CountAnswer.{CountAnswer}
 use Rattle.answers.specs.declared.CountAnswer.the-variants.{Counted}
 use Rattle.answers.specs.declared.CountAnswer.the-variants as CountAnswers
@@ -58,9 +57,12 @@ timetable starts = starts ++ replicate (places - length starts) mark
 abbrev pub absent : ℕ
 absent = mark
 
--- An area of 150 bytes that are all 7.
+-- An area of cells that are all 7; WRITE is lent 150 of them.
+abbrev pub sevens : ℕ → List ℕ
+sevens n = replicate n 7
+
 abbrev pub lent : List ℕ
-lent = replicate 150 7
+lent = sevens 150
 
 pub data Row : Type 0 where
   reads : List ℕ → ReadAnswer → Row
@@ -69,10 +71,11 @@ pub data Row : Type 0 where
   writes : List ℕ → ℕ → List ℕ → Row
   checks : List ℕ → ℕ → List ℕ → CheckAnswer → Row
   counts : List ℕ → ℕ → CountAnswer → Row
-  lists : List ℕ → ℕ → ℕ → ListAnswer → Row
+  -- LIST into an area of so many cells: the answer, and the rows from the front
+  lists : List ℕ → ℕ → ℕ → ListAnswer → List (List ℕ) → Row
   spans : List ℕ → ℕ → List ℕ → Row
-  -- BEST: the variants that have a shortest session (which of them is open), its makespan and COUNT's number
-  finds : List ℕ → ℕ → List ℕ → ℕ → ℕ → Row
+  -- BEST: its variant, its makespan, COUNT's number and the starts
+  finds : List ℕ → ℕ → ℕ → ℕ → ℕ → List ℕ → Row
   stops : List ℕ → ℕ → Refusal → Row
 
 -- The file's lines say a plan whose nodes are one whole term with n variants, be they too many or not.
@@ -83,17 +86,16 @@ pub record HasVariants (s : List ℕ) (n : ℕ) : Type 0 where
   pub whole : termOf (plan .nodes) ≡ some term
   pub count : variantCount term ≡ n
 
--- The makespans of the active sessions of variant v, in some order.
+-- The makespans of the active sessions of variant v, in their order.
 pub record Spans (s : List ℕ) (v : ℕ) (makespans : List ℕ) : Type 0 where
   pub plan : Plan
   pub term : Term
   pub accepted : judge s ≡ accepts plan term
   pub within : v < variantCount term
   pub same :
-      Perm
-      (map (λ row. makespan (projectOf plan (variantAt term v)) (startsOf row))
-      (sessions (projectOf plan (variantAt term v)) mark))
-      makespans
+      map (λ row. makespan (projectOf plan (variantAt term v)) (startsOf row))
+      (sessions (projectOf plan (variantAt term v)) mark)
+      ≡ makespans
 
 -- What a row says of the definitions.
 abbrev pub Holds : Row → Type 0
@@ -103,13 +105,13 @@ Holds (writes s v bytes) =
     writeOf s v lent ≡ record { answer = Written (length bytes); area = bytes ++ drop (length bytes) lent }
 Holds (checks s v starts answer) = checkOf s v starts ≡ answer
 Holds (counts s cap answer) = countOf s cap ≡ answer
-Holds (lists s cap cells answer) =
-    (before after : List ℕ) (given : ListAnswer) → length before ≡ cells → ListOf s cap before given after
-    → given ≡ answer
+Holds (lists s cap cells answer rows) =
+    listOf s cap (sevens cells)
+    ≡ record { answer = answer; area = cellsOf rows ++ drop (length (cellsOf rows)) (sevens cells) }
 Holds (spans s v makespans) = Spans s v makespans
-Holds (finds s cap variants span count) =
-    (best : Best) → BestOf s cap best → (v : ℕ) × List·Memᴰ v variants × (best .answer ≡ Found v span count)
-Holds (stops s cap r) = (best : Best) → BestOf s cap best → best .answer ≡ BestAnswers.Refused r
+Holds (finds s cap v span count starts) =
+    bestOf s cap ≡ record { answer = Found v span count; timetable = record { starts = timetable starts } }
+Holds (stops s cap r) = bestOf s cap ≡ noBest r
 
 abbrev pub dotTest : List ℕ
 dotTest =
@@ -130,8 +132,38 @@ twoContested = file "plan=1/res=2/acts=4/act=0,1/act=0,1/act=1,1/act=1,1/nodes=5
 abbrev pub freeResourceWaits : List ℕ
 freeResourceWaits = file "plan=1/res=2/acts=4/act=0,10/act=1,1/act=0,1/act=1,20/nodes=6/node=p,2/node=a,0/node=s,3/node=a,1/node=a,2/node=a,3"
 
+abbrev pub threeShortest : List ℕ
+threeShortest = file "plan=1/res=1/acts=3/act=0,1/act=0,1/act=0,1/nodes=5/node=p,2/node=a,1/node=s,2/node=a,2/node=a,0"
+
 abbrev pub example2 : List ℕ
 example2 = file "plan=1/res=4/acts=8/act=0,1/act=1,2/act=2,2/act=1,1/act=0,1/act=0,2/act=3,1/act=1,2/nodes=13/node=p,4/node=s,2/node=p,2/node=a,0/node=a,1/node=a,2/node=s,2/node=a,3/node=a,4/node=a,5/node=s,2/node=a,6/node=a,7"
+
+abbrev pub dotRows : List (List ℕ)
+dotRows =
+    (0 ∷ 0 ∷ absent ∷ absent ∷ 4 ∷ 4 ∷ [])
+    ∷ (1 ∷ absent ∷ 0 ∷ 2 ∷ 5 ∷ 5 ∷ [])
+    ∷ (1 ∷ absent ∷ 3 ∷ 0 ∷ 5 ∷ 5 ∷ [])
+    ∷ []
+
+abbrev pub twoContestedRows : List (List ℕ)
+twoContestedRows =
+    (0 ∷ 0 ∷ 1 ∷ 0 ∷ 1 ∷ []) ∷ (0 ∷ 0 ∷ 1 ∷ 1 ∷ 0 ∷ []) ∷ (0 ∷ 1 ∷ 0 ∷ 0 ∷ 1 ∷ []) ∷ (0 ∷ 1 ∷ 0 ∷ 1 ∷ 0 ∷ []) ∷ []
+
+abbrev pub example2Rows : List (List ℕ)
+example2Rows =
+    (0 ∷ 0 ∷ 0 ∷ 2 ∷ 2 ∷ 3 ∷ 1 ∷ 0 ∷ 3 ∷ [])
+    ∷ (0 ∷ 0 ∷ 0 ∷ 2 ∷ 4 ∷ 5 ∷ 1 ∷ 0 ∷ 2 ∷ [])
+    ∷ (0 ∷ 0 ∷ 1 ∷ 3 ∷ 0 ∷ 1 ∷ 2 ∷ 0 ∷ 3 ∷ [])
+    ∷ (0 ∷ 0 ∷ 1 ∷ 3 ∷ 0 ∷ 3 ∷ 1 ∷ 0 ∷ 3 ∷ [])
+    ∷ (0 ∷ 0 ∷ 3 ∷ 5 ∷ 0 ∷ 1 ∷ 2 ∷ 0 ∷ 1 ∷ [])
+    ∷ (0 ∷ 0 ∷ 3 ∷ 5 ∷ 0 ∷ 3 ∷ 1 ∷ 0 ∷ 1 ∷ [])
+    ∷ (0 ∷ 2 ∷ 0 ∷ 3 ∷ 2 ∷ 3 ∷ 0 ∷ 0 ∷ 3 ∷ [])
+    ∷ (0 ∷ 2 ∷ 0 ∷ 3 ∷ 4 ∷ 5 ∷ 0 ∷ 0 ∷ 2 ∷ [])
+    ∷ (0 ∷ 2 ∷ 1 ∷ 3 ∷ 0 ∷ 3 ∷ 0 ∷ 0 ∷ 3 ∷ [])
+    ∷ (0 ∷ 2 ∷ 3 ∷ 5 ∷ 0 ∷ 3 ∷ 0 ∷ 0 ∷ 1 ∷ [])
+    ∷ (0 ∷ 3 ∷ 1 ∷ 4 ∷ 0 ∷ 2 ∷ 0 ∷ 0 ∷ 3 ∷ [])
+    ∷ (0 ∷ 3 ∷ 3 ∷ 5 ∷ 0 ∷ 2 ∷ 0 ∷ 0 ∷ 1 ∷ [])
+    ∷ []
 
 -- The eleven x of activities 2 and 3, 4 and 5 and so on.
 abbrev elevenChoices : List ℕ
@@ -209,28 +241,37 @@ table =
     ∷ counts dotTest 3 (Counted 3)
     ∷ counts dotTest 2 (CountAnswers.Refused OverCap)
     ∷ counts dotTest 0 (CountAnswers.Refused OverCap)
-    ∷ lists dotTest 3 18 (Listed 3)
-    ∷ lists dotTest 3 17 (ListAnswers.Refused (AreaTooShort 18))
-    ∷ lists dotTest 2 18 (ListAnswers.Refused OverCap)
-    ∷ lists dotTest 0 18 (ListAnswers.Refused OverCap)
+    ∷ lists dotTest 3 20 (Listed 3) dotRows
+    ∷ lists dotTest 3 18 (Listed 3) dotRows
+    ∷ lists dotTest 3 17 (ListAnswers.Refused (AreaTooShort 18)) []
+    ∷ lists dotTest 2 18 (ListAnswers.Refused OverCap) []
+    ∷ lists dotTest 0 18 (ListAnswers.Refused OverCap) []
     -- Activity 0 under both picks of an x counts twice.
     ∷ counts twiceUnderX 9 (Counted 2)
-    -- Two contested resources on one tick; a free resource that has to wait; document 000, Example 2, second term.
+    ∷ lists twiceUnderX 2 5 (Listed 2) ((0 ∷ 0 ∷ []) ∷ (1 ∷ 0 ∷ []) ∷ [])
+    -- Two contested resources on one tick; a free resource that has to wait; three sessions that are equally long;
+    -- document 000, Example 2, second term.
     ∷ spans twoContested 0 (2 ∷ 2 ∷ 2 ∷ 2 ∷ [])
+    ∷ lists twoContested 4 20 (Listed 4) twoContestedRows
     ∷ spans freeResourceWaits 0 (31 ∷ 22 ∷ [])
-    ∷ spans example2 0 (5 ∷ 6 ∷ 5 ∷ 7 ∷ 5 ∷ 7 ∷ 5 ∷ 6 ∷ 5 ∷ 7 ∷ 6 ∷ 7 ∷ [])
+    ∷ lists freeResourceWaits 2 11 (Listed 2) ((0 ∷ 0 ∷ 0 ∷ 10 ∷ 11 ∷ []) ∷ (0 ∷ 2 ∷ 0 ∷ 1 ∷ 2 ∷ []) ∷ [])
+    ∷ spans threeShortest 0 (3 ∷ 3 ∷ 3 ∷ [])
+    ∷ lists threeShortest 3 12 (Listed 3) ((0 ∷ 1 ∷ 2 ∷ 0 ∷ []) ∷ (0 ∷ 2 ∷ 0 ∷ 1 ∷ []) ∷ (0 ∷ 2 ∷ 1 ∷ 0 ∷ []) ∷ [])
+    ∷ spans example2 0 (5 ∷ 6 ∷ 5 ∷ 5 ∷ 7 ∷ 7 ∷ 5 ∷ 6 ∷ 5 ∷ 7 ∷ 6 ∷ 7 ∷ [])
+    ∷ lists example2 12 108 (Listed 12) example2Rows
     -- BEST. The dot test with the program's cap, and caps on both sides of the number of its sessions.
-    ∷ finds dotTest 1000000 (0 ∷ []) 10 3
-    ∷ finds dotTest 3 (0 ∷ []) 10 3
+    ∷ finds dotTest 1000000 0 10 3 (0 ∷ absent ∷ absent ∷ 4 ∷ 4 ∷ [])
+    ∷ finds dotTest 3 0 10 3 (0 ∷ absent ∷ absent ∷ 4 ∷ 4 ∷ [])
     ∷ stops dotTest 2 OverCap
     ∷ stops dotTest 0 OverCap
-    -- Both variants are shortest; plans that the reader turns back.
-    ∷ finds twiceUnderX 1000000 (0 ∷ 1 ∷ []) 1 2
+    -- Both variants are shortest, and 0 goes first; plans that the reader turns back.
+    ∷ finds twiceUnderX 1000000 0 1 2 (0 ∷ [])
     ∷ stops twiceUnderP 1000000 Twice
     ∷ stops groupOfOne 1000000 (GroupOfOne 6)
-    -- Two contested resources on one tick; 22 is missed if a free resource never waits; document 000, Example 2, second
-    -- term.
-    ∷ finds twoContested 1000000 (0 ∷ []) 2 4
-    ∷ finds freeResourceWaits 1000000 (0 ∷ []) 22 2
-    ∷ finds example2 1000000 (0 ∷ []) 5 12
+    -- Two contested resources on one tick; 22 is missed if a free resource never waits; the first of the three, whatever
+    -- is found first; document 000, Example 2, second term: the first of five.
+    ∷ finds twoContested 1000000 0 2 4 (0 ∷ 1 ∷ 0 ∷ 1 ∷ [])
+    ∷ finds freeResourceWaits 1000000 0 22 2 (2 ∷ 0 ∷ 1 ∷ 2 ∷ [])
+    ∷ finds threeShortest 1000000 0 3 3 (1 ∷ 2 ∷ 0 ∷ [])
+    ∷ finds example2 1000000 0 5 12 (0 ∷ 0 ∷ 2 ∷ 2 ∷ 3 ∷ 1 ∷ 0 ∷ 3 ∷ [])
     ∷ []

@@ -1,11 +1,11 @@
 // Whether the planner's answers on a file are what the enumerator found. `own` has the enumerator's rows.
-use crate::rows::has_session;
+use crate::rows::Row;
 use crate::rows::hold;
-use crate::rows::same_rows;
+use crate::rows::is_same;
+use crate::rows::shortest;
 use answers::BestAnswer;
 use answers::CountAnswer;
 use answers::ListAnswer;
-use enumerator::ABSENT;
 use enumerator::Enumerated;
 use plain::ACTS;
 use plain::Judged;
@@ -64,13 +64,13 @@ fn list_refuses(r: Refusal, cap: u32, cells: usize, e: Enumerated) -> bool {
     (cells < e.cells) & is_refusal(r, 8, e.cells as u64)
 }
 
-// LIST has the enumerator's rows, if they are within cap and area, and leaves every other cell.
+// LIST has the enumerator's rows in their order, if they are within cap and area, and leaves every other cell.
 fn list_in(file: &[u8], cap: u32, area: &mut [u16], e: Enumerated, own: &[u16]) -> bool {
     match calls::list(file, cap, area) {
         ListAnswer::Listed(rows) => {
             let has_room = (e.count <= cap) & (e.cells <= area.len());
-            let is_same = (rows == wide(e.count)) & same_rows(area, own, e.count, e.acts);
-            has_room & is_same & hold(area, e.cells, BLANK)
+            let is_listed = (rows == wide(e.count)) & is_same(area, own, e.cells);
+            has_room & is_listed & hold(area, e.cells, BLANK)
         }
         ListAnswer::Refused(r) => list_refuses(r, cap, area.len(), e) & hold(area, 0, BLANK),
     }
@@ -84,16 +84,14 @@ pub fn list_agrees(file: &[u8], cap: u32, cells: usize, e: Enumerated, own: &[u1
     list_in(file, cap, &mut area[..cells], e, own)
 }
 
-// Is a session one of the enumerator's, with the mark at every activity that its row lacks?
-fn is_session(variant: u64, starts: [u16; ACTS], e: Enumerated, own: &[u16]) -> bool {
-    if ABSENT as u64 <= variant {
-        return false;
-    }
-    has_session(own, e.count, variant as u16, &starts, e.acts) & hold(&starts, e.acts, ABSENT)
+// Is a session this row, with the mark where the row has it?
+fn is_row(variant: u64, makespan: u64, starts: [u16; ACTS], row: Row) -> bool {
+    let own = row.starts;
+    let is_as_long = makespan == wide(row.makespan);
+    (variant == row.variant as u64) & is_as_long & is_same(&starts, &own, ACTS)
 }
 
-// BEST has one of the enumerator's sessions, if these are within the cap: one of the least makespan of all feasible
-// ones.
+// BEST has the enumerator's first shortest row, if the rows are within the cap. No feasible session is shorter.
 fn best_agrees(file: &[u8], cap: u32, e: Enumerated, own: &[u16]) -> bool {
     let best = calls::best(file, cap);
     let answer = best.answer;
@@ -106,9 +104,8 @@ fn best_agrees(file: &[u8], cap: u32, e: Enumerated, own: &[u16]) -> bool {
             count,
         } => {
             let is_counted = (e.count <= cap) & (count == wide(e.count));
-            let own_makespan = enumerator::makespan(file, &starts);
-            let is_least = (makespan == wide(e.makespan)) & (own_makespan == e.makespan);
-            is_counted & is_least & is_session(variant, starts, e, own)
+            let is_first = is_row(variant, makespan, starts, shortest(file, e, own));
+            is_counted & is_first & (makespan == wide(e.makespan))
         }
         BestAnswer::Refused(r) => (cap < e.count) & is_refusal(r, 7, 0),
     }

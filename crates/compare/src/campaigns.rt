@@ -76,6 +76,7 @@ fn put_sessions() {
     put_all_calls(b"free_resource_waits", &samples::free_resource_waits());
     put_all_calls(b"twice_under_x", &samples::twice_under_x());
     put_all_calls(b"example_2", &samples::example_2());
+    put_all_calls(b"three_shortest", &samples::three_shortest());
 }
 
 fn put_variants() {

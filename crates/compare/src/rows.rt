@@ -1,5 +1,8 @@
-// Two listings held against each other cell by cell. A row is a variant and a start for each activity; row order is
-// open.
+// Two listings held against each other cell by cell, and the first shortest row of one. A row is a variant and a start
+// for each activity.
+use enumerator::ABSENT;
+use enumerator::Enumerated;
+use plain::ACTS;
 
 fn cell(area: &[u16], at: usize) -> u16 {
     if at < area.len() { area[at] } else { 0 }
@@ -10,55 +13,14 @@ fn on(at: usize, cells: usize) -> usize {
     std::num::wrapping_add_usize(at, cells)
 }
 
-// Are so many cells at a place of one area those at a place of another?
-fn is_same(area: &[u16], at: usize, other: &[u16], from: usize, cells: usize) -> bool {
+// Are the first cells of two areas the same?
+pub fn is_same(area: &[u16], other: &[u16], cells: usize) -> bool {
     for i in 0..cells {
-        if cell(area, on(at, i)) != cell(other, on(from, i)) {
+        if cell(area, i) != cell(other, i) {
             return false;
         }
     }
     true
-}
-
-// Is the row at a place of another area one of this area's rows?
-fn has_row(area: &[u16], rows: u32, width: usize, other: &[u16], from: usize) -> bool {
-    let mut at = 0usize;
-    for k in 0..rows {
-        if is_same(area, at, other, from, width) {
-            return true;
-        }
-        at = on(at, width);
-    }
-    false
-}
-
-// Are another area's rows, as many as this area has, all among them?
-fn has_rows(area: &[u16], rows: u32, width: usize, other: &[u16]) -> bool {
-    let mut from = 0usize;
-    for k in 0..rows {
-        if !has_row(area, rows, width, other, from) {
-            return false;
-        }
-        from = on(from, width);
-    }
-    true
-}
-
-pub fn same_rows(area: &[u16], other: &[u16], rows: u32, acts: usize) -> bool {
-    let width = on(1, acts);
-    has_rows(area, rows, width, other) && has_rows(other, rows, width, area)
-}
-
-// Does a row have this variant, and these starts of the first activities?
-pub fn has_session(area: &[u16], rows: u32, variant: u16, starts: &[u16], acts: usize) -> bool {
-    let mut at = 0usize;
-    for k in 0..rows {
-        if (cell(area, at) == variant) & is_same(area, on(at, 1), starts, 0, acts) {
-            return true;
-        }
-        at = on(at, on(1, acts));
-    }
-    false
 }
 
 // Do the cells from a place on all hold this?
@@ -69,4 +31,51 @@ pub fn hold(area: &[u16], from: usize, content: u16) -> bool {
         }
     }
     true
+}
+
+// A session: its variant, its makespan and its starts, with the mark behind the plan's activities.
+pub struct Row {
+    pub variant: u16,
+    pub makespan: u32,
+    pub starts: [u16; ACTS],
+}
+
+fn start(area: &[u16], at: usize, acts: usize, i: usize) -> u16 {
+    if i < acts {
+        cell(area, on(at, i))
+    } else {
+        ABSENT
+    }
+}
+
+// The starts from a place on.
+fn starts_at(area: &[u16], at: usize, acts: usize) -> [u16; ACTS] {
+    let mut starts = [ABSENT; ACTS];
+    for i in 0..ACTS {
+        starts[i] = start(area, at, acts, i);
+    }
+    starts
+}
+
+fn row_at(file: &[u8], area: &[u16], at: usize, acts: usize) -> Row {
+    let starts = starts_at(area, on(at, 1), acts);
+    Row {
+        variant: cell(area, at),
+        makespan: enumerator::makespan(file, &starts),
+        starts,
+    }
+}
+
+// The first row of the least makespan, of the enumerator's rows.
+pub fn shortest(file: &[u8], e: Enumerated, own: &[u16]) -> Row {
+    let mut best = row_at(file, own, 0, e.acts);
+    let mut at = 0usize;
+    for k in 0..e.count {
+        let row = row_at(file, own, at, e.acts);
+        if row.makespan < best.makespan {
+            best = row;
+        }
+        at = on(at, on(1, e.acts));
+    }
+    best
 }

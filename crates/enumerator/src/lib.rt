@@ -56,7 +56,8 @@ fn unknown() -> Enumerated {
     }
 }
 
-// The active sessions of a plan, their rows from the front of the area. A row that does not fit is left out.
+// The active sessions of a plan, their rows from the front of the area: by variant, then by the start of activity 0,
+// then of activity 1, and so on. A row that does not fit is left out.
 pub fn enumerate(file: &[u8], area: &mut [u16]) -> Enumerated {
     let judged = plain::judge(file);
     if !judged.known | (judged.number != 0) {

@@ -69,7 +69,8 @@ fn with_start(starts: [u16; ACTS], i: usize, tick: u16) -> [u16; ACTS] {
     next
 }
 
-// The activities from i on, each at every tick where it fits those before it.
+// The activities from i on, each at every tick where it fits those before it. Ticks rise, so sessions come by the start
+// of activity 0, then of activity 1, and so on.
 pub fn place<'a>(
     relations: &'a [u8; PAIRS],
     duration: &'a [u16; ACTS],

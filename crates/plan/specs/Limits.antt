@@ -44,9 +44,12 @@ longestDuration = 2000
 abbrev pub latestPossible : ℕ
 latestPossible = mostActs * longestDuration
 
--- A start and a cell of LIST are numbers below this, and a word is one below that.
+-- A start and a cell of LIST have so many bits and are numbers below this; a word is a number below that.
+abbrev pub cellBits : ℕ
+cellBits = 16
+
 abbrev pub cellValues : ℕ
-cellValues = 2 ^ 16
+cellValues = 2 ^ cellBits
 
 abbrev pub wordValues : ℕ
 wordValues = 2 ^ 32

@@ -19,6 +19,8 @@ pub const LONGEST: usize = 959;
 
 pub const MOST_VARIANTS: u32 = 4096;
 
+pub const CELL_BITS: u32 = 16;
+
 // The form of each kind of line: `#` stands for a value and `@` for a node's letter.
 pub const EDITION_FORM: [u8; 7] = *b"plan=#\n";
 

@@ -4,7 +4,7 @@ use Prim.Native.Nat.{ℕ, _+_, _-_, _≤_, _<_}
 use native.Mathlib.Omega.{arith}
 use mathlib.Core.Path.{_≡_, sym, ap, _∙_}
 use mathlib.Core.List.{List, _++_, map, List·Memᴰ, Memᴰ·map, Perm}
-use lib.ListN.{length, getD, take, drop, replicate, length-drop, getD-replicate, length-replicate, take-append-drop}
+use lib.ListN.{length, drop, replicate, length-drop, getD-replicate, length-replicate, take-append-drop}
 use lib.Seq.{ext-getD, getD-drop}
 use Rattle.plan.specs.Limits.{latestPossible}
 use Rattle.plan.specs.Plan.{Plan}
@@ -12,33 +12,24 @@ use Rattle.term.specs.Term.{Term}
 use Rattle.timetable.specs.Mark.{mark, places}
 use Rattle.schedule.specs.Bounds.{work}
 use Rattle.schedule.specs.Project.{Project}
-use Rattle.schedule.specs.Schedule.{Starts, makespan}
+use Rattle.schedule.specs.Schedule.{makespan}
 use Rattle.schedule.specs.Sessions.{startsOf, sessions}
-use Rattle.schedule.proofs.Reflect.{Feasible, Active}
 use Rattle.schedule.proofs.OneUnit.{Bench}
 use Rattle.schedule.proofs.Lower.{work-bound}
-use Rattle.schedule.proofs.Box.{session-mem}
+use Rattle.schedule.proofs.Box.{session-is, session-mem}
 use Rattle.branching.proofs.Rank.{before}
-use Rattle.scan.specs.Model.{Problem, starts, startOf, found, scanOf, problemOf, lastEnd}
-use Rattle.base.proofs.Lists.{singles-length, singles-front}
+use Rattle.scan.specs.Model.{Problem, starts, found, scanOf, problemOf, lastEnd}
+use Rattle.scan.proofs.Starts.{starts-length, starts-front}
 use Rattle.scan_exact.proofs.Shows.{Models}
-use Rattle.scan_exact.proofs.Leaf.{Leaf, leaf-marked, leaf-active, leaf-makespan}
+use Rattle.scan_exact.proofs.Leaf.{Leaf, leaf-marked, leaf-makespan}
 use Rattle.scan_exact.proofs.Complete.{scanned-leaf, scanned-some}
-use Rattle.scan_exact.proofs.Found.{found-perm, found-session, scanned-short}
+use Rattle.scan_exact.proofs.Found.{found-perm, found-session}
 use Rattle.variant.specs.Project.{variantAt, projectOf}
 use Rattle.term.specs.Valid.{HasVariant}
 use Rattle.variant.proofs.Instance.{resourceOf, acts-between, bench}
 use Rattle.plan_exact.proofs.Variant.{short-project, ranked, models}
 use Rattle.variant.specs.declared.Variant.{Variant}
 use Rattle.variant.specs.Tables.{IsVariant}
-
-pub starts-length : (q : Problem) (n : ℕ) (ends : List ℕ) → length (starts q n ends) ≡ n
-unfolding starts
-starts-length q n ends = singles-length (λ i. startOf (getD ends i 0) (q .duration i)) n
-
-pub starts-front : (q : Problem) (m n : ℕ) (ends : List ℕ) → m ≤ n → take m (starts q n ends) ≡ starts q m ends
-unfolding starts
-starts-front q m n ends le = singles-front (λ i. startOf (getD ends i 0) (q .duration i)) m n le
 
 module _ (p : Plan) (t : Term) (v : ℕ) (c : HasVariant p t v) (x : Variant) (held : IsVariant p (variantAt t v) x)
   where
@@ -64,11 +55,6 @@ module _ (p : Plan) (t : Term) (v : ℕ) (c : HasVariant p t v) (x : Variant) (h
     pub variant-some : (ends : List ℕ) × List·Memᴰ ends (scanOf x)
     variant-some = scanned-some P (resourceOf p) benched q (x .present) given (before P) (ranked p t v c)
 
-    -- For every feasible schedule there is one among those found that is no longer.
-    pub variant-short : (S : Starts) → Feasible P S
-        → (ends : List ℕ) × List·Memᴰ ends (scanOf x) × (lastEnd ends ≤ makespan P S)
-    variant-short = scanned-short P (resourceOf p) benched q (x .present) given (before P) (ranked p t v c)
-
     module _ (ends : List ℕ) (m : List·Memᴰ ends (scanOf x)) where
       pub variant-session : List·Memᴰ (starts q N ends) (sessions P mark)
       unfolding projectOf found
@@ -83,25 +69,18 @@ module _ (p : Plan) (t : Term) (v : ℕ) (c : HasVariant p t v) (x : Variant) (h
       room : P .size ≤ places
       room = given .small
 
-      pub variant-active : Active P (startsOf (starts q places ends))
-      variant-active = leaf-active P (resourceOf p) benched q (x .present) given ends leaf places room
-
-      pub variant-makespan : lastEnd ends ≡ makespan P (startsOf (starts q places ends))
-      variant-makespan = leaf-makespan P (resourceOf p) benched q (x .present) given ends leaf places room
-
-      -- The same of the starts of the plan's own activities.
       pub variant-span : lastEnd ends ≡ makespan P (startsOf (starts q N ends))
       unfolding projectOf
       variant-span = leaf-makespan P (resourceOf p) benched q (x .present) given ends leaf N (omega arith)
 
       -- It ends by the sum of the durations.
-      pub variant-early : lastEnd ends ≤ work P
+      variant-early : lastEnd ends ≤ work P
       variant-early =
           omega (
             arith,
-            variant-makespan,
-            work-bound P (startsOf (starts q places ends)) (benched .sound)
-                (benched .unfixed) (benched .gapless) variant-active,
+            variant-span,
+            work-bound P (startsOf (starts q N ends)) (benched .sound) (benched .unfixed) (benched .gapless)
+                (session-is P mark (starts q N ends) variant-session .is-active),
           )
 
       pub variant-latest : lastEnd ends ≤ latestPossible
@@ -116,14 +95,14 @@ module _ (p : Plan) (t : Term) (v : ℕ) (c : HasVariant p t v) (x : Variant) (h
           0
           (drop N full)
           (replicate (places - N) mark)
-          (length-drop N full ∙ omega (arith, starts-length q places ends, length-replicate (places - N) mark))
+          (length-drop N full ∙ omega (arith, starts-length q ends places, length-replicate (places - N) mark))
           (λ i l.
-          let b : N + i < places = omega (arith, length-drop N full, starts-length q places ends) in
+          let b : N + i < places = omega (arith, length-drop N full, starts-length q ends places) in
           getD-drop N full i 0
           ∙ leaf-marked P (resourceOf p) benched q (x .present) given ends leaf places room (N + i) b
           (given .beyond (N + i) (unfold projectOf in omega arith))
           ∙ sym (getD-replicate (places - N) i mark 0 (omega arith)))
           in
           sym (take-append-drop N full)
-          ∙ ap (_++ drop N full) (starts-front q N places ends (acts-between p (c .valid .ranges) .1))
+          ∙ ap (_++ drop N full) (starts-front q ends N places (acts-between p (c .valid .ranges) .1))
           ∙ ap (starts q N ends ++_) rest

@@ -7,7 +7,7 @@ use mathlib.Core.Logic.{by-cases}
 use mathlib.Core.Path.{_≡_, sym, ap, _∙_, subst}
 use mathlib.Core.List.{List, _∷_, _++_, map, List·Memᴰ, Memᴰ·map, Memᴰ·of-map, head-eq-of-cons-eq, tail-eq-of-cons-eq}
 use lib.Dec.{eqb}
-use lib.ListN.{length, take, replicate, getD-replicate, List·getD-append}
+use lib.ListN.{length, replicate, getD-replicate, List·getD-append}
 use lib.Seq.{getD-append-add}
 use borrow.Author.Tests.{eq-eqb, ne-eqb}
 use Rattle.plan.specs.Plan.{Plan}
@@ -15,12 +15,13 @@ use Rattle.term.specs.Term.{Term}
 use Rattle.term.specs.Variants.{variantCount, activities, member}
 use Rattle.timetable.specs.Mark.{mark, places}
 use Rattle.schedule.specs.Project.{Project}
+use Rattle.schedule.specs.Schedule.{makespan}
 use Rattle.schedule.specs.Sessions.{startsOf, sessions}
 use Rattle.base.proofs.Bools.{by-bool, both}
 use Rattle.base.proofs.Below.{every-of}
 use Rattle.schedule.proofs.Load.{Has}
 use Rattle.schedule.proofs.Reflect.{feasible-of}
-use Rattle.schedule.proofs.Agree.{Feasible-agree}
+use Rattle.schedule.proofs.Agree.{Agree, Feasible-agree, makespan-agree}
 use Rattle.base.proofs.Lists.{gather-is, gather-mem}
 use Rattle.schedule.proofs.Box.{SessionRow, session-is, session-unmarked}
 use Rattle.variant.specs.Project.{variantAt, projectOf}
@@ -29,7 +30,6 @@ use Rattle.variant.proofs.RoundTrip.{variant-below}
 use Rattle.variant.proofs.Instance.{has-of, has-below}
 use Rattle.variant.specs.Pairs.{pairs}
 use Rattle.variant.specs.Timetable.{timetableOf, isMarked, isSession}
-use Rattle.answers.specs.Shortest.{Shortest}
 use Rattle.plan_exact.proofs.Variant.{chosen, box-unmarked}
 
 -- A variant of the plan and a session of it.
@@ -96,6 +96,12 @@ module _ (p : Plan) (t : Term) (v : ℕ) (c : HasVariant p t v) (ss : List ℕ)
       (λ b. front i b ∙ is .marked i (unfold projectOf in b) (unfold projectOf in z))
       (λ g. behind i (omega arith) l))
 
+  agrees : Agree P (startsOf ss) (startsOf (timetableOf p ss))
+  agrees i h = sym (front i (has-below p w i h))
+
+  pub session-span : makespan P (startsOf ss) ≡ makespan P (startsOf (timetableOf p ss))
+  session-span = makespan-agree P (startsOf ss) (startsOf (timetableOf p ss)) agrees
+
   pub session-timetable : isSession p w (timetableOf p ss) ≡ true
   unfolding isSession isMarked
   session-timetable =
@@ -107,20 +113,19 @@ module _ (p : Plan) (t : Term) (v : ℕ) (c : HasVariant p t v) (ss : List ℕ)
       (λ y. rw (y, there i y))
       (λ z. rw (z, away i l z))))
       (feasible-of P (startsOf (timetableOf p ss))
-      (Feasible-agree P (startsOf ss) (startsOf (timetableOf p ss))
-      (λ i h. sym (front i (has-below p w i h)))
-      (is .is-active .is-feasible)))
+      (Feasible-agree P (startsOf ss) (startsOf (timetableOf p ss)) agrees (is .is-active .is-feasible)))
 
--- CHECK says yes to every row of COUNT's pairs,
+-- CHECK says yes to every row of COUNT's pairs.
 pub pair-checks : (p : Plan) (t : Term) → Valid p t → (v : ℕ) (ss : List ℕ) → List·Memᴰ (v ∷ ss) (pairs p t)
     → isSession p (variantAt t v) (timetableOf p ss) ≡ true
 pair-checks p t valid v ss m =
     let pair : Pair p t v ss = pair-is p t v ss m in
     session-timetable p t v (chosen p t v valid (pair .below)) ss (pair .session)
 
--- and to a shortest session.
-pub shortest-checks : (p : Plan) (t : Term) → Valid p t → (v span : ℕ) (ss : List ℕ) → Shortest p t v span ss
-    → isSession p (variantAt t v) ss ≡ true
-shortest-checks p t valid v span ss s =
-    subst (λ (x : List ℕ). isSession p (variantAt t v) x ≡ true) (sym (s .marked))
-    (pair-checks p t valid v (take (length (p .activities)) ss) (s .one-of))
+-- The timetable of a pair has its makespan.
+pub pair-span : (p : Plan) (t : Term) → Valid p t → (v : ℕ) (ss : List ℕ) → List·Memᴰ (v ∷ ss) (pairs p t)
+    → makespan (projectOf p (variantAt t v)) (startsOf ss)
+    ≡ makespan (projectOf p (variantAt t v)) (startsOf (timetableOf p ss))
+pair-span p t valid v ss m =
+    let pair : Pair p t v ss = pair-is p t v ss m in
+    session-span p t v (chosen p t v valid (pair .below)) ss (pair .session)

@@ -1,9 +1,8 @@
--- What the search finds for the variants of a valid plan, one after the other, are the pairs of the plan in some
--- order.
+-- The pairs of a valid plan stand in order, and what the search finds for its variants are these, once it is sorted.
 use Prim.Native.Nat.{ℕ, _≤_, _<_}
 use native.Mathlib.Omega.{arith}
-use mathlib.Core.Path.{_≡_}
-use mathlib.Core.List.{List, _∷_, map, Memᴰ·map, Perm, Perm·map}
+use mathlib.Core.Path.{_≡_, sym}
+use mathlib.Core.List.{List, _∷_, map, Memᴰ·map, Pairwise, Pairwise·imp, Perm, Perm·map, Perm·symm}
 use lib.ListN.{length}
 use Rattle.plan.specs.Plan.{Plan}
 use Rattle.term.specs.Term.{Term}
@@ -12,8 +11,11 @@ use Rattle.term.proofs.Reading.{plan-full}
 use Rattle.term.proofs.Counting.{variantCount-count, some-variant}
 use Rattle.timetable.specs.Mark.{mark}
 use Rattle.base.specs.Lists.{gather}
+use Rattle.base.specs.Order.{Before, sorted}
+use Rattle.base.proofs.Order.{before-prop, before-not-after, cons-ordered, cons-before, sorted-is}
 use Rattle.schedule.specs.Sessions.{sessions}
-use Rattle.base.proofs.Lists.{map-map, mem-some, gather-perm, gather-some, perm-length}
+use Rattle.base.proofs.Lists.{map-map, mem-some, gather-perm, gather-pairwise, gather-some, perm-length}
+use Rattle.schedule.proofs.Box.{sessions-ordered}
 use Rattle.scan.specs.Model.{starts, scanOf, problemOf}
 use Rattle.variant.specs.Project.{variantAt, projectOf}
 use Rattle.variant.specs.Pairs.{pairs, pairCount}
@@ -35,6 +37,14 @@ rowsOf n x v = map (λ ends. v ∷ starts (problemOf (x v)) n ends) (scanOf (x v
 abbrev pub allRows : Plan → Term → (ℕ → Variant) → List (List ℕ)
 allRows p t x = gather (variantCount t) (rowsOf (length (p .activities)) x)
 
+pub pairs-ordered : (p : Plan) (t : Term) → Pairwise Before (pairs p t)
+unfolding pairs
+pairs-ordered p t =
+    let listed : ℕ → List (List ℕ) = λ v. sessions (projectOf p (variantAt t v)) mark in
+    gather-pairwise before-prop (variantCount t) (λ v. map (v ∷_) (listed v))
+    (λ v l. cons-ordered v (listed v) (sessions-ordered (projectOf p (variantAt t v)) mark))
+    (λ u v l a b m n. cons-before u v l a b (listed u) (listed v) m n)
+
 -- There is a variant.
 pub variants-some : (p : Plan) (t : Term) → Valid p t → 1 ≤ variantCount t
 variants-some p t valid =
@@ -55,6 +65,12 @@ module _ (p : Plan) (t : Term) (valid : Valid p t) (x : ℕ → Variant) (held :
   rows-perm =
       gather-perm (variantCount t) (rowsOf N x) (λ v. map (v ∷_) (sessions (projectOf p (variantAt t v)) mark))
       rows-of
+
+  pub rows-sorted : sorted (allRows p t x) ≡ pairs p t
+  rows-sorted =
+      sym
+      (sorted-is (pairs p t) (allRows p t x) (Pairwise·imp before-not-after (pairs-ordered p t))
+      (Perm·symm rows-perm))
 
   pub rows-count : length (allRows p t x) ≡ pairCount p t
   unfolding pairCount

@@ -1,113 +1,119 @@
--- Of all that the search finds for the variants of a valid plan, one that ends first is what BEST asks for.
-use Prim.Native.Nat.{ℕ, _-_, _*_, _≤_, _<_}
+-- The first shortest pair of a valid plan: none of the pairs is shorter, those that are as short are not before it, and
+-- no feasible session of any variant is shorter.
+use Prim.Native.Nat.{ℕ, _*_, _≤_, _<_}
+use native.Mathlib.Nat.{le-antisymm, not-suc-le-zero}
 use native.Mathlib.Omega.{arith}
-use mathlib.Core.Logic.{_↔_}
-use mathlib.Core.Path.{_≡_, sym, ap, _∙_}
-use mathlib.Core.List.{List, _∷_, _++_, List·Memᴰ}
-use lib.ListN.{length, take, replicate}
+use mathlib.Core.Bool.{Bool}
+use mathlib.Core.Logic.{⊎-elim}
+use mathlib.Core.Path.{_≡_, sym, ap, subst, _∙_}
+use mathlib.Core.List.{List, [], _∷_, map, List·Memᴰ, Memᴰ·map, Memᴰ·of-map}
+use lib.Dec.{eqb}
+use lib.ListN.{length}
+use borrow.Author.Tests.{eq-eqb, eqb-true}
+use Rattle.base.specs.Lists.{leastOf}
+use Rattle.base.specs.Order.{NotAfter}
+use Rattle.base.proofs.Lists.{keep-is, keep-mem, keep-pairwise, first-mem, first-to, least-below, least-mem}
+use Rattle.base.proofs.Order.{not-self, before-not-after, not-after-antisym}
 use Rattle.plan.specs.Plan.{Plan}
 use Rattle.term.specs.Term.{Term}
+use Rattle.term.specs.Valid.{Valid}
 use Rattle.term.specs.Variants.{variantCount}
-use Rattle.timetable.specs.Mark.{mark, places}
-use Rattle.schedule.specs.Bounds.{demand}
+use Rattle.timetable.specs.Mark.{mark}
+use Rattle.schedule.specs.Bounds.{Chain, chainLength, demand, work}
 use Rattle.schedule.specs.Project.{Project}
 use Rattle.schedule.specs.Schedule.{Starts, makespan}
 use Rattle.schedule.specs.Sessions.{startsOf}
-use Rattle.schedule.proofs.Reflect.{Feasible, feasible-is, feasible-of}
-use Rattle.schedule.proofs.Lower.{chain-bound, demand-bound}
-use Rattle.scan.specs.Model.{starts, scanOf, problemOf, lastEnd}
+use Rattle.schedule.proofs.Reflect.{Feasible, Active}
+use Rattle.schedule.proofs.Lower.{chain-bound, demand-bound, work-bound}
+use Rattle.schedule.proofs.Box.{no-longer-session, session-is, session-mem}
 use Rattle.variant.specs.Project.{variantAt, projectOf}
-use Rattle.term.specs.Valid.{HasVariant, Valid}
-use Rattle.variant.proofs.Instance.{acts-between, one-unit}
-use Rattle.variant.specs.Pairs.{pairs}
-use Rattle.answers.specs.Shortest.{FeasibleIn, makespanIn, NoneShorter, Shortest}
-use Rattle.plan_exact.proofs.Variant.{chosen}
-use Rattle.plan_exact.proofs.Found.{starts-front, variant-session, variant-active, variant-makespan}
-use Rattle.plan_exact.proofs.Found.{variant-early, variant-marked, variant-short}
-use Rattle.plan_exact.proofs.Pairs.{pair-mem}
-use Rattle.plan_exact.proofs.Rows.{HeldEach}
-use Rattle.variant.specs.declared.Variant.{Variant}
-use Rattle.variant.specs.Tables.{IsVariant}
+use Rattle.variant.specs.Pairs.{pairs, pairCount}
+use Rattle.variant.proofs.Instance.{one-unit, sound, unfixed, gapless}
+use Rattle.answers.specs.Shortest.{makespanIn, rowSpan, shortestPairs, firstShortest}
+use Rattle.plan_exact.proofs.Pairs.{Pair, pair-is, pair-mem}
+use Rattle.plan_exact.proofs.Rows.{pairs-ordered, pairs-some}
 
--- Ends that the search finds for variant v, and none that it finds for any variant are earlier.
-pub record Earliest (t : Term) (x : ℕ → Variant) (v : ℕ) (ends : List ℕ) : Type 0 where
-  pub below : v < variantCount t
-  pub found : List·Memᴰ ends (scanOf (x v))
-  pub least : (u : ℕ) (other : List ℕ) → u < variantCount t → List·Memᴰ other (scanOf (x u))
-      → lastEnd ends ≤ lastEnd other
+pub record First (p : Plan) (t : Term) (row : List ℕ) : Type 0 where
+  pub one-of : List·Memᴰ row (pairs p t)
+  pub least : (other : List ℕ) → List·Memᴰ other (pairs p t) → rowSpan p t row ≤ rowSpan p t other
+  pub first : (other : List ℕ) → List·Memᴰ other (pairs p t) → rowSpan p t other ≡ rowSpan p t row
+      → NotAfter row other
 
-module _ (p : Plan) (t : Term) (valid : Valid p t) (x : ℕ → Variant) (held : HeldEach p t x)
-    (v : ℕ) (ends : List ℕ) (earliest : Earliest t x v ends) where
-  abbrev P : Project
-  P = projectOf p (variantAt t v)
+-- There is one such row.
+pub first-unique : (p : Plan) (t : Term) (a b : List ℕ) → First p t a → First p t b → a ≡ b
+first-unique p t a b f g =
+    let same : rowSpan p t a ≡ rowSpan p t b = le-antisymm (f .least b (g .one-of)) (g .least a (f .one-of)) in
+    not-after-antisym a b (f .first b (g .one-of) (sym same)) (g .first a (f .one-of) same)
 
-  abbrev N : ℕ
-  N = length (p .activities)
+module _ (p : Plan) (t : Term) (valid : Valid p t) where
+  abbrev spans : List ℕ
+  spans = map (rowSpan p t) (pairs p t)
 
-  abbrev row : List ℕ
-  row = starts (problemOf (x v)) places ends
+  -- One of the pairs has the least makespan.
+  a-shortest : (row : List ℕ) × List·Memᴰ row (pairs p t) × (rowSpan p t row ≡ leastOf spans)
+  unfolding pairCount
+  a-shortest = of-some (pairs p t) (pairs-some p t valid)
+    where
+      of-some : (l : List (List ℕ)) → 1 ≤ length l
+          → (row : List ℕ) × List·Memᴰ row l × (rowSpan p t row ≡ leastOf (map (rowSpan p t) l))
+      of-some [] some = absurd (not-suc-le-zero some)
+      of-some (x ∷ xs) some =
+          Memᴰ·of-map (rowSpan p t) (x ∷ xs) (least-mem (rowSpan p t x) (map (rowSpan p t) xs))
 
-  c : HasVariant p t v
-  c = chosen p t v valid (earliest .below)
+  pub first-shortest : First p t (firstShortest p t)
+  unfolding firstShortest shortestPairs
+  first-shortest =
+      let test : List ℕ → Bool = λ row. eqb (rowSpan p t row) (leastOf spans) in
+      let (row, m, e) = a-shortest in
+      let kept = keep-mem test (pairs p t) m (eq-eqb (rowSpan p t row) (leastOf spans) e) in
+      let (here, y) = keep-is test (pairs p t) (first-mem (shortestPairs p t) [] kept) in
+      let span : rowSpan p t (firstShortest p t) ≡ leastOf spans = eqb-true _ _ y in
+      record {
+        one-of = here;
+        least = λ other n. omega (arith, span, least-below spans _ (Memᴰ·map (rowSpan p t) n));
+        first =
+            λ other n same.
+            ⊎-elim
+            (λ q. subst (NotAfter (firstShortest p t)) (sym q) (not-self (firstShortest p t)))
+            (before-not-after (firstShortest p t) other)
+            (first-to (shortestPairs p t) [] (keep-pairwise test (pairs p t) (pairs-ordered p t))
+            (keep-mem test (pairs p t) n (eq-eqb (rowSpan p t other) (leastOf spans) (same ∙ span))));
+      }
 
-  tables : IsVariant p (variantAt t v) (x v)
-  tables = held v (earliest .below)
+  -- It is a session that no feasible one undercuts, starts being any whole ticks.
+  module _ (v : ℕ) (ss : List ℕ) (first : First p t (v ∷ ss)) where
+    abbrev P : Project
+    P = projectOf p (variantAt t v)
 
-  front : take N row ≡ starts (problemOf (x v)) N ends
-  front = starts-front (problemOf (x v)) N places ends (acts-between p (valid .ranges) .1)
+    pair : Pair p t v ss
+    pair = pair-is p t v ss (first .one-of)
 
-  is-feasible : Feasible P (startsOf row)
-  is-feasible = variant-active p t v c (x v) tables ends (earliest .found) .is-feasible
+    pub first-active : Active P (startsOf ss)
+    first-active = session-is P mark ss (pair .session) .is-active
 
-  one-of : List·Memᴰ (v ∷ take N row) (pairs p t)
-  one-of =
-      rw front
-      (pair-mem p t v (starts (problemOf (x v)) N ends)
-      (record { below = earliest .below; session = variant-session p t v c (x v) tables ends (earliest .found) }))
+    pub first-least : (u : ℕ) (S : Starts) → u < variantCount t → Feasible (projectOf p (variantAt t u)) S
+        → makespan P (startsOf ss) ≤ makespanIn p t u S
+    first-least u S l f =
+        let Q : Project = projectOf p (variantAt t u) in
+        let (row, s, e) = no-longer-session Q mark S (unfixed p (variantAt t u)) f in
+        let listed = session-mem Q mark row (sound p (valid .ranges) (variantAt t u)) s in
+        omega (arith, first .least (u ∷ row) (pair-mem p t u row (record { below = l; session = listed })))
 
-  marked : row ≡ take N row ++ replicate (places - N) mark
-  marked =
-      variant-marked p t v c (x v) tables ends (earliest .found) ∙ ap (_++ replicate (places - N) mark) (sym front)
+    -- It is between its variant's chains and loads and the sum of its durations.
+    pub first-chains : (i : ℕ) (js : List ℕ) → Chain P i js → chainLength P i js ≤ makespan P (startsOf ss)
+    first-chains i js chain = chain-bound P (startsOf ss) (first-active .is-feasible) i js chain
 
-  its-own : lastEnd ends ≡ makespanIn p t v (startsOf row)
-  its-own = variant-makespan p t v c (x v) tables ends (earliest .found)
-
-  -- Starts being any whole ticks, no feasible session of any variant is shorter.
-  least : (u : ℕ) (S : Starts) → FeasibleIn p t u S → lastEnd ends ≤ makespanIn p t u S
-  least u S (l, f) =
-      let (other, m, e) =
-      variant-short p t u (chosen p t u valid l) (x u) (held u l) S (feasible-is (projectOf p (variantAt t u)) S f)
-      in
-      omega (arith, earliest .least u other l m)
-
-  exactly : (u : ℕ) (S : Starts) → FeasibleIn p t u S → (makespanIn p t u S ≡ lastEnd ends) ↔ NoneShorter p t u S
-  exactly u S f = (
-    λ e u R g. omega (arith, least u R g),
-    λ none.
+    pub first-loads : (r : ℕ) → r < p .resources → demand P r ≤ makespan P (startsOf ss)
+    first-loads r l =
+        let on : r < P .resources = unfold projectOf in l in
+        let single : P .capacity r ≡ 1 = one-unit p (valid .ranges) (variantAt t v) .single r on in
         omega (
           arith,
-          its-own,
-          least u S f,
-          none v (startsOf row)
-              (earliest .below, feasible-of P (startsOf row) is-feasible),
-        ),
-  )
+          demand-bound P (startsOf ss) (first-active .is-feasible) r on,
+          ap (makespan P (startsOf ss) *_) single,
+        )
 
-  loads : (r : ℕ) → r < p .resources → demand P r ≤ lastEnd ends
-  loads r l =
-      let on : r < P .resources = unfold projectOf in l in
-      let single : P .capacity r ≡ 1 = one-unit p (valid .ranges) (variantAt t v) .single r on in
-      omega (arith, its-own, demand-bound P (startsOf row) is-feasible r on, ap (makespan P (startsOf row) *_) single)
-
-  pub shortest : Shortest p t v (lastEnd ends) row
-  shortest =
-      record {
-        one-of = one-of;
-        marked = marked;
-        its-own = its-own;
-        least = least;
-        exactly = exactly;
-        chains = λ i js chain. omega (arith, its-own, chain-bound P (startsOf row) is-feasible i js chain);
-        loads = loads;
-        at-most = variant-early p t v c (x v) tables ends (earliest .found);
-      }
+    pub first-at-most : makespan P (startsOf ss) ≤ work P
+    first-at-most =
+        work-bound P (startsOf ss) (sound p (valid .ranges) (variantAt t v)) (unfixed p (variantAt t v))
+        (gapless p (variantAt t v)) first-active

@@ -23,9 +23,16 @@ fn put_session_lines(fd: i32) -> bool {
     )
         && io::write_all(
             fd,
-            b"  planner list [CAP]     print them: the variant, then the start of each activity, - if absent\n",
+            b"  planner list [CAP]     print them: the variant, then the start of each activity, - if absent,\n",
         )
-        && io::write_all(fd, b"  planner best [CAP]     print a shortest session\n")
+        && io::write_all(
+            fd,
+            b"                         in the order of these numbers\n",
+        )
+        && io::write_all(
+            fd,
+            b"  planner best [CAP]     print the first shortest session of that order\n",
+        )
         && io::write_all(
             fd,
             b"More active sessions than CAP, which is 1000000 if not given, are refused.\n",

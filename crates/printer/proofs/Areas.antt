@@ -2,7 +2,7 @@
 use Prim.Native.Nat.{ℕ, suc, _+_, _*_, _≤_, _<_}
 use mathlib.Core.Bool.{Bool, true, false}
 use mathlib.Core.List.{List}
-use mathlib.Core.Path.{_≡_, refl, ap, subst, _∙_}
+use mathlib.Core.Path.{_≡_, refl, sym, ap, _∙_}
 use native.Mathlib.Nat.{suc-mul, mul-le-mul-right}
 use native.Mathlib.Numerals.{add-one}
 use native.Mathlib.Omega.{arith}
@@ -11,6 +11,7 @@ use lib.Dec.{leb, ltb}
 use lib.ListN.{length}
 use Rattle.plan.specs.declared.Refusal.{Refusal}
 use Rattle.plan.specs.Limits.{mostActs}
+use Rattle.plan.specs.Outcome.{Outcome}
 use Rattle.plan.specs.Plan.{Plan}
 use Rattle.term.specs.Term.{Term}
 use Rattle.term.specs.Variants.{variantCount}
@@ -26,7 +27,8 @@ use Rattle.judge.proofs.Accepts.{accepted-valid}
 use Rattle.write.specs.declared.WriteAnswer.the-variants.{Written, Refused}
 use Rattle.answers.specs.declared.ListAnswer.{ListAnswer}
 use Rattle.answers.specs.declared.ListAnswer.the-variants.{Listed}
-use Rattle.answers.specs.Listed.{cellsNeeded, Lists, ListsBy, ListOf}
+use Rattle.answers.specs.declared.ListAnswer.the-variants as Lists
+use Rattle.answers.specs.Listed.{cellsNeeded, listWithin, listBy, listOf}
 use Rattle.write.specs.Answer.{placedBy, writeVariant, writeBy, writeOf}
 
 refused : {A : Type 0} {r : Refusal} {n : ℕ} → Refused r ≡ Written n → A
@@ -61,6 +63,9 @@ next-row row rows width at size is h fits =
     ap (λ (k : ℕ). k * width) (add-one row) ∙ suc-mul row width in
     (omega (arith, more, mul-le-mul-right width h, suc-mul row width), omega (arith, more))
 
+not-listed : {A : Type 0} {r : Refusal} {k : ℕ} → Lists.Refused r ≡ Listed k → A
+not-listed e = let z : _≡_ {A = ℕ} 0 1 = cc in absurd (omega arith)
+
 -- READ tells of the plan that LIST lists: it has few activities, and the rows of its sessions fit the area.
 module _ (s : List ℕ) (n m v : ℕ) (told : readOf s ≡ Read n m v) where
   by-verdict : {C : Type 0} (j : Verdict) → judge s ≡ j → answerTo j ≡ Read n m v
@@ -75,28 +80,20 @@ module _ (s : List ℕ) (n m v : ℕ) (told : readOf s ≡ Read n m v) where
       let ranges = plan-sound p (accepted-valid s p t is .0 .ranges) in
       omega (arith, between-facts 1 mostActs (length (p .activities)) (ranges .acts))
 
-  listed-fit : (b c : Bool) (p : Plan) (t : Term) (before : List ℕ) (k : ℕ) (after : List ℕ)
-      → leb (cellsNeeded p t) (length before) ≡ c → Lists b c p t before (Listed k) after
+  listed-fit : (b c : Bool) (p : Plan) (t : Term) (before : List ℕ) (k : ℕ)
+      → leb (cellsNeeded p t) (length before) ≡ c → listWithin b c p t before .answer ≡ Listed k
       → k * suc (length (p .activities)) ≤ length before
-  listed-fit true true p t before k after fits lists =
-      let is : pairCount p t ≡ k = cc (lists .0) in
+  listed-fit true true p t before k fits e =
+      let is : pairCount p t ≡ k = cc in
       rw (← is) (leb-true (cellsNeeded p t) (length before) fits)
-  listed-fit true false p t before k after fits lists =
-      let e = lists .0 in
-      let z : _≡_ {A = ℕ} 0 1 = cc in
-      absurd (omega arith)
-  listed-fit false c p t before k after fits lists =
-      let e = lists .0 in
-      let z : _≡_ {A = ℕ} 0 1 = cc in
-      absurd (omega arith)
+  listed-fit true false p t before k fits e = not-listed e
+  listed-fit false c p t before k fits e = not-listed e
 
-  pub rows-fit : (cap : ℕ) (before : List ℕ) (answer : ListAnswer) (after : List ℕ) → ListOf s cap before answer after
-      → (k : ℕ) → answer ≡ Listed k → k * (n + 1) ≤ length before
-  unfolding readOf ListOf
-  rows-fit cap before answer after lists k e =
+  pub rows-fit : (cap : ℕ) (before : List ℕ) (o : Outcome ListAnswer) → o ≡ listOf s cap before
+      → (k : ℕ) → o .answer ≡ Listed k → k * (n + 1) ≤ length before
+  unfolding readOf listOf
+  rows-fit cap before o lists k e =
       by-verdict (judge s) refl told λ p t is count.
-      let listed : ListsBy (judge s) cap before (Listed k) after =
-      subst (λ (a : ListAnswer). ListsBy (judge s) cap before a after) e lists in
-      let of-plan : ListsBy (accepts p t) cap before (Listed k) after =
-      subst (λ (j : Verdict). ListsBy j cap before (Listed k) after) is listed in
-      rw (add-one, ← count) (listed-fit (leb (pairCount p t) cap) _ p t before k after refl of-plan)
+      rw (add-one, ← count)
+      (listed-fit (leb (pairCount p t) cap) _ p t before k refl
+      (sym (ap (λ (j : Verdict). listBy j cap before .answer) is) ∙ sym (ap (λ (x : Outcome ListAnswer). x .answer) lists) ∙ e))

@@ -29,6 +29,13 @@ pub fn example_2() -> [u8; 210] {
         node=a,5\nnode=s,2\nnode=a,6\nnode=a,7\n"
 }
 
+// p over activity 1 and the sequence of 2 and 0, all of duration 1 on one resource: three sessions, equally long.
+pub fn three_shortest() -> [u8; 97] {
+    *b"plan=1\nres=1\nacts=3\n\
+        act=0,1\nact=0,1\nact=0,1\n\
+        nodes=5\nnode=p,2\nnode=a,1\nnode=s,2\nnode=a,2\nnode=a,0\n"
+}
+
 // x over activity 0 twice.
 pub fn twice_under_x() -> [u8; 63] {
     *b"plan=1\nres=1\nacts=1\n\

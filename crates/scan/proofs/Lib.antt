@@ -1,2 +1,3 @@
 -- Laws of the search's model.
 pub mod Forced
+pub mod Starts

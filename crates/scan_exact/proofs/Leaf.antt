@@ -115,7 +115,7 @@ module _ (p : Project) (resource : ℕ → ℕ) (bench : Bench p resource) (q : 
     unfolding s
     leaf-marked i l z = place i l ∙ mark-at s (leaf .shows) (leaf .empty) i z
 
-    pub leaf-active : Active p (startsOf (model.starts q n ends))
+    leaf-active : Active p (startsOf (model.starts q n ends))
     unfolding s
     leaf-active =
         Active-agree p (startsAt q s) (startsOf (model.starts q n ends)) agrees

@@ -1,13 +1,12 @@
 -- The rows of the box and the list of sessions: a row is a session exactly if it is active and has the mark at every
--- absent activity; every active schedule has its row there; and no row is there twice.
+-- absent activity; every active schedule has its row there; and the rows stand in the order of their starts.
 use Prim.Native.Nat.{ℕ, zero, suc, _+_, _≤_, _<_}
 use native.Mathlib.Nat.{not-suc-le-zero, suc-ne-zero, zero-add}
 use native.Mathlib.Omega.{arith}
 use mathlib.Core.Bool.{true, false, cond}
 use mathlib.Core.Path.{_≡_, refl, sym, _∙_, ap, subst}
 use mathlib.Core.List.{List, [], _∷_, map, List·Memᴰ, List·Memᴰ·head, List·Nodup, List·Memᴰ·eq-of-singleton, Memᴰ·map}
-use mathlib.Core.List.{Memᴰ·of-map, Memᴰ·cast, head-eq-of-cons-eq, tail-eq-of-cons-eq}
-use mathlib.Mathlib.Data.List.Nodup as nodup
+use mathlib.Core.List.{Memᴰ·of-map, Memᴰ·cast, Pairwise, pairwise-singleton}
 use lib.ListN.{length, getD}
 use lib.Seq.{ext-getD}
 use Rattle.schedule.specs.Project.{Project}
@@ -19,7 +18,9 @@ use Rattle.schedule.proofs.Reflect.{Feasible, Active, active-is, active
 use Rattle.schedule.proofs.Agree.{Agree, Active-agree, makespan-agree}
 use Rattle.schedule.proofs.Compact.{Shorter, compact-makespan}
 use Rattle.schedule.proofs.Bounds.{starts-below-horizon}
-use Rattle.base.proofs.Lists.{keep-is, keep-mem, keep-nodup, gather-is, gather-mem, gather-nodup}
+use Rattle.base.specs.Order.{Before}
+use Rattle.base.proofs.Order.{before-prop, cons-before, cons-ordered, ordered-nodup}
+use Rattle.base.proofs.Lists.{keep-is, keep-mem, keep-pairwise, gather-is, gather-mem, gather-pairwise}
 
 -- A row for the activities from number k on, of which there are n more.
 pub record BoxRow (p : Project) (mark k n : ℕ) (row : List ℕ) : Type 0 where
@@ -92,25 +93,20 @@ row-mem p mark k (suc n) (x ∷ xs) r =
     (ap (_∷ xs) (r .marked 0 (omega arith) (subst (λ (j : ℕ). p .present j ≡ false) (omega arith) z)))
     (Memᴰ·map (mark ∷_) rest)))
 
-rows-nodup : (p : Project) (mark k n : ℕ) → List·Nodup (rows p mark k n)
+rows-ordered : (p : Project) (mark k n : ℕ) → Pairwise Before (rows p mark k n)
 unfolding rows
-rows-nodup p mark k zero = nodup.nodup-singleton []
-rows-nodup p mark k (suc n) =
-    let rest : (t : ℕ) → List·Nodup (map (t ∷_) (rows p mark (suc k) n)) =
-    λ t. nodup.map (λ a b e. tail-eq-of-cons-eq e) (rows-nodup p mark (suc k) n)
+rows-ordered p mark k zero = pairwise-singleton Before []
+rows-ordered p mark k (suc n) =
+    let rest : (t : ℕ) → Pairwise Before (map (t ∷_) (rows p mark (suc k) n)) =
+    λ t. cons-ordered t (rows p mark (suc k) n) (rows-ordered p mark (suc k) n)
     in
     by-bool
     (p .present k)
     (λ y.
     rw y
-    (gather-nodup
-    (horizon p)
-    (λ t. map (t ∷_) (rows p mark (suc k) n))
-    (λ t l. rest t)
-    (λ t u row m m′.
-    let (x, mx, ex) = Memᴰ·of-map (t ∷_) (rows p mark (suc k) n) m in
-    let (z, mz, ez) = Memᴰ·of-map (u ∷_) (rows p mark (suc k) n) m′ in
-    head-eq-of-cons-eq (ex ∙ sym ez))))
+    (gather-pairwise before-prop (horizon p) (λ t. map (t ∷_) (rows p mark (suc k) n)) (λ t l. rest t)
+    (λ t u l a b m m′.
+    cons-before t u l a b (rows p mark (suc k) n) (rows p mark (suc k) n) m m′)))
     (λ z. rw z (rest mark))
 
 -- Sessions.
@@ -163,10 +159,14 @@ session-mem p mark row sound s =
     }))
     (active-of p (startsOf row) (s .is-active))
 
-pub sessions-nodup : (p : Project) (mark : ℕ) → List·Nodup (sessions p mark)
+-- They stand in the order of their starts, and so none is there twice.
+pub sessions-ordered : (p : Project) (mark : ℕ) → Pairwise Before (sessions p mark)
 unfolding sessions
-sessions-nodup p mark =
-    keep-nodup (λ x. active p (startsOf x)) (rows p mark 0 (p .size)) (rows-nodup p mark 0 (p .size))
+sessions-ordered p mark =
+    keep-pairwise (λ x. active p (startsOf x)) (rows p mark 0 (p .size)) (rows-ordered p mark 0 (p .size))
+
+pub sessions-nodup : (p : Project) (mark : ℕ) → List·Nodup (sessions p mark)
+sessions-nodup p mark = ordered-nodup (sessions p mark) (sessions-ordered p mark)
 
 -- The row of a schedule.
 

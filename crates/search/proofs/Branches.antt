@@ -16,8 +16,8 @@ use Rattle.scan.proofs.Forced.{inner}
 use Rattle.scan.specs.Model.{Problem, State, never, finish, isOpen, key, isChoice, freeze, branches, leaves}
 use Rattle.sets.specs.Lowest.{lowestOf, afterLowest}
 use Rattle.sets.proofs.Members.{members, fold-members, after-less, after-has, turn}
-use Rattle.search.specs.Tables.{problemIn}
-use Rattle.search.specs.Seen.{Setting, Kept, IsTally, settingIn, keptOf, counted, seen, seenIn}
+use Rattle.tally.specs.Tables.{problemIn}
+use Rattle.tally.specs.Seen.{Setting, Kept, IsTally, settingIn, keptOf, counted, seen, seenIn}
 use Rattle.search.specs.Standing.{Position, AtState, Beside, Searched, Explored}
 
 module _ (p : Problem) (s : State) (k i end : ℕ) (given : end ≡ cond (isChoice p s k i) (finish p s i) never) where

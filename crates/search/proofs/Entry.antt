@@ -15,11 +15,12 @@ use Rattle.sets.proofs.Laws.{has-none, size-le}
 use Rattle.sets.specs.Sets.{most, has, meet, size, width}
 use Rattle.scan.specs.Model.{Problem, root, scanned, ready, isOpen, problemOf, scanOf}
 use Rattle.network.specs.Network.{predsAt, Network, durationAt, resourceAt, predsFrom}
-use Rattle.search.specs.Tables.{problemIn}
-use Rattle.search.specs.Seen.{Setting, settingIn, keptOf, IsTally, allSeen, Kept, seen}
+use Rattle.tally.specs.Tables.{problemIn}
+use Rattle.tally.specs.Seen.{Setting, settingIn, keptOf, IsTally, allSeen, Kept, seen}
 use Rattle.candidates.specs.Work.{Timed, Opened, readyFrom, freeFrom, workCells}
-use Rattle.search.specs.Standing.{Fit, AtState, position, Standing, Explored}
-use Rattle.search.proofs.Columns.{preds-at}
+use Rattle.tally.specs.Leaf.{Fit}
+use Rattle.search.specs.Standing.{AtState, position, Standing, Explored}
+use Rattle.tally.proofs.Columns.{preds-at}
 use Rattle.variant.specs.declared.Variant.{Variant}
 use Rattle.variant.specs.Tables.{entryIn, IsVariant, Tabled}
 use Rattle.variant.specs.Project.{variantAt}

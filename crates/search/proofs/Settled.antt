@@ -22,12 +22,13 @@ use Rattle.scan.proofs.Forced as forced
 use Rattle.sets.specs.Lowest.{lowestOf, afterLowest}
 use Rattle.sets.proofs.Members.{lowest-is, lowest-has, lowest-below}
 use Rattle.network.specs.Network.{resourceAt}
-use Rattle.search.specs.Tables.{problemIn}
-use Rattle.search.specs.Seen.{Setting, Kept, settingIn, keptOf, IsTally, better, foundRow, counted, seen}
-use Rattle.search.specs.Seen.{seenIn}
+use Rattle.tally.specs.Tables.{problemIn}
+use Rattle.tally.specs.Seen.{Setting, Kept, settingIn, keptOf, IsTally, better, foundRow, counted, seen}
+use Rattle.tally.specs.Seen.{seenIn}
 use Rattle.candidates.specs.Work.{freeAt, Timed, opens, Released, Uncontested, readyFrom, freeFrom, finishAt}
-use Rattle.search.specs.Standing.{Fit, Leaf, Position, position, AtState, Standing, Beside, Explored}
-use Rattle.search.proofs.Columns.{duration-at, resource-at}
+use Rattle.tally.specs.Leaf.{Fit, Leaf}
+use Rattle.search.specs.Standing.{Position, position, AtState, Standing, Beside, Explored}
+use Rattle.tally.proofs.Columns.{duration-at, resource-at}
 use Rattle.search.proofs.Parts.{member-below}
 use Rattle.search.proofs.Child.{all-ended, below, waits, finish-is, finish-early, child, no-release}
 use Rattle.search.proofs.Child.{no-release-of}

@@ -1,4 +1,2 @@
 -- What the search's contracts say.
-pub mod Tables
-pub mod Seen
 pub mod Standing

@@ -5,34 +5,14 @@ use mathlib.Core.Bool.{true, false}
 use mathlib.Core.List.{List, foldl}
 use mathlib.Core.Path.{_≡_}
 use lib.ListN.{length, getD}
-use Rattle.plan.specs.Limits.{longestDuration, mostResources, cellValues, wordValues}
+use Rattle.plan.specs.Limits.{longestDuration, mostResources}
 use Rattle.sets.specs.Sets.{most, has, size, width}
-use Rattle.timetable.specs.Mark.{places}
 use Rattle.scan.specs.Model.{State, ready, isOpen, leaves, lastEnd}
-use Rattle.network.specs.Network.{durationAt, resourceAt, predsAt, capOf, variantOf, actsOf, Linked}
+use Rattle.network.specs.Network.{durationAt, resourceAt, predsAt}
 use Rattle.candidates.specs.Work.{endAt, readyAt, freeAt, Timed}
-use Rattle.search.specs.Tables.{problemIn}
-use Rattle.search.specs.Seen.{Kept, keptOf, IsTally, seenIn}
-
--- What has ended has run its duration.
-pub record Ended (t w : List ℕ) : Type 0 where
-  pub ran : (i : ℕ) → i < most → (endAt w i ≡ 0 → ⊥) → durationAt t i ≤ endAt w i
-  pub timed : Timed t w
-
--- The table is whole, and its numbers are in range.
-pub record Fit (t : List ℕ) : Type 0 where
-  pub linked : Linked t
-  pub short : (i : ℕ) → i < most → durationAt t i ≤ longestDuration
-  pub acts : actsOf t ≤ places
-  pub variant : variantOf t < cellValues
-  pub cap : capOf t < wordValues
-
--- A schedule is found: the ends in the working array, the latest of them, and the cells of the tally.
-pub record Leaf (t w : List ℕ) (latest : ℕ) (cells : List ℕ) : Type 0 where
-  pub ended : Ended t w
-  pub fit : Fit t
-  pub tally : IsTally cells
-  pub last : latest ≡ lastEnd w
+use Rattle.tally.specs.Tables.{problemIn}
+use Rattle.tally.specs.Seen.{Kept, keptOf, IsTally, seenIn}
+use Rattle.tally.specs.Leaf.{Fit}
 
 -- Where the search stands: what is left, the candidates of that, the latest end so far, and the working array.
 pub record Position : Type 0 where

@@ -1,6 +1,4 @@
 // The search for the active schedules of one variant.
-mod leaf;
-
 use candidates::FREE;
 use candidates::NEVER;
 use candidates::WORK_CELLS;
@@ -12,49 +10,26 @@ use candidates::later;
 use candidates::least_key;
 use candidates::opened;
 use candidates::release;
-use leaf::COUNT;
-use leaf::Cells;
-use leaf::cells_of;
-use leaf::leave;
-use leaf::tally_of;
 use network::CAP;
 use network::Table;
 use network::resource_of;
 use sets::after_lowest;
 use sets::lowest;
-use timetable::Timetable;
+use tally::COUNT;
+use tally::Cells;
+use tally::Tally;
+use tally::cells_of;
+use tally::leave;
+use tally::tally_of;
 use variant::Variant;
 ghost use mathlib.Core.Path.{_≡_};
 ghost use Prim.Native.Nat.{_<_, _+_};
 ghost use Rattle.sets.specs.Lowest.{afterLowest};
 ghost use Rattle.variant.specs.Tables.{Tabled};
-ghost use Rattle.search.specs.Seen.{noTally, kept, keptOf, allSeen};
+ghost use Rattle.tally.specs.Seen.{kept, keptOf, allSeen};
 ghost use Rattle.candidates.specs.Work.{Uncontested};
 ghost use Rattle.search.specs.Standing.{position, Standing, Explored};
 ghost use Rattle.variant.specs.declared.Variant.{Variant};
-
-// How many schedules were found, and the one of them that ends first: its latest end, its variant and its starts.
-pub struct Tally {
-    pub count: u64,
-    pub best_end: u64,
-    pub best_variant: u64,
-    pub best: Timetable,
-}
-
-impl Tally {
-    // Nothing found yet.
-    pub fn none() -> Tally
-        ensures { λ r. ⌜ r ≡ noTally ⌝ }
-    {
-        let best = Timetable::empty();
-        Tally {
-            count: 0,
-            best_end: NEVER as u64,
-            best_variant: 0,
-            best,
-        }
-    }
-}
 
 // The last activity left is frozen.
 fn finish(

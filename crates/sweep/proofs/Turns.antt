@@ -9,8 +9,8 @@ use Rattle.term.specs.Term.{Term}
 use Rattle.term.specs.Valid.{HasVariant}
 use Rattle.term.specs.Variants.{variantCount}
 use Rattle.scan.specs.Model.{Problem, problemOf, scanned}
-use Rattle.search.specs.Seen.{Kept, kept, settingOf, noTally, seen, allSeen}
-use Rattle.search.specs.declared.Tally.{Tally}
+use Rattle.tally.specs.Seen.{Kept, kept, settingOf, seen, allSeen}
+use Rattle.tally.specs.declared.Tally.{Tally}
 use Rattle.tally.proofs.Entries.{run-none, run-next, run-done}
 use Rattle.variant.specs.Project.{variantAt}
 use Rattle.variant.specs.Tables.{IsVariant, tablesOf}
@@ -48,15 +48,13 @@ variant-swept c v cap x k t h held =
     same-seen chosen held (tables-hold (planOf (c .tables)) t v chosen) cap k
 
 -- All of them.
-module _ (c : Campaign) (cap : ℕ) (area₀ : List ℕ) where
+module _ (c : Campaign) (cap : ℕ) (k₀ : Kept) where
   -- What is kept is what the first v variants leave.
   abbrev pub SweptTo : ℕ → Tally → List ℕ → Type 0
-  SweptTo v tally area = (t : Term) → HoldsPlan c t → kept tally area ≡ sweptBelow c t cap area₀ v
+  SweptTo v tally area = (t : Term) → HoldsPlan c t → kept tally area ≡ sweptBelow c t cap k₀ v
 
-  pub swept-none : (tally : Tally) → tally ≡ noTally → SweptTo 0 tally area₀
-  swept-none tally e t h =
-      ap (λ (x : Tally). kept x area₀) e
-      ∙ sym (run-none (length (planOf (c .tables) .activities)) cap (tablesAt c t) (kept noTally area₀))
+  pub swept-none : SweptTo 0 (k₀ .tally) (k₀ .area)
+  swept-none t h = sym (run-none (length (planOf (c .tables) .activities)) cap (tablesAt c t) k₀)
 
   pub swept-next : (v : ℕ) (tally after : Tally) (area next : List ℕ) → v < c .variants → SweptTo v tally area
       → ((t : Term) → HoldsVariant c t v → kept after next ≡ sweptAt c t cap v (kept tally area))
@@ -65,20 +63,20 @@ module _ (c : Campaign) (cap : ℕ) (area₀ : List ℕ) where
   swept-next v tally after area next l before e t h =
       e t (has-variant h v l)
       ∙ ap (sweptAt c t cap v) (before t h)
-      ∙ sym (run-next (length (planOf (c .tables) .activities)) cap (tablesAt c t) (kept noTally area₀) v)
+      ∙ sym (run-next (length (planOf (c .tables) .activities)) cap (tablesAt c t) k₀ v)
 
   -- At the last variant, or sooner where the count is above the cap.
   pub swept-all : (tally : Tally) (area : List ℕ) → SweptTo (c .variants) tally area
-      → (t : Term) → HoldsPlan c t → kept tally area ≡ swept c t cap area₀
-  swept-all tally area s t h = s t h ∙ ap (sweptBelow c t cap area₀) (h .counted)
+      → (t : Term) → HoldsPlan c t → kept tally area ≡ swept c t cap k₀
+  swept-all tally area s t h = s t h ∙ ap (sweptBelow c t cap k₀) (h .counted)
 
   pub swept-over : (v : ℕ) (tally : Tally) (area : List ℕ) → v ≤ c .variants → cap < tally .count
       → SweptTo v tally area
-      → (t : Term) → HoldsPlan c t → kept tally area ≡ swept c t cap area₀
+      → (t : Term) → HoldsPlan c t → kept tally area ≡ swept c t cap k₀
   swept-over v tally area l o s t h =
-      let over : cap < sweptBelow c t cap area₀ v .tally .count =
+      let over : cap < sweptBelow c t cap k₀ v .tally .count =
       omega (arith, o, ap (λ (k : Kept). k .tally .count) (s t h)) in
       s t h
       ∙ sym
-      (run-done (length (planOf (c .tables) .activities)) cap (tablesAt c t) (kept noTally area₀) v (variantCount t)
+      (run-done (length (planOf (c .tables) .activities)) cap (tablesAt c t) k₀ v (variantCount t)
       (omega (arith, l, h .counted)) over)

@@ -1,6 +1,5 @@
 -- What is kept after all schedules of the variants of an accepted plan.
 use Prim.Native.Nat.{ℕ}
-use mathlib.Core.List.{List}
 use lib.ListN.{length}
 use Rattle.plan.specs.Plan.{planOf}
 use Rattle.term.specs.Term.{Term}
@@ -8,7 +7,7 @@ use Rattle.term.specs.Variants.{variantCount}
 use Rattle.variant.specs.Project.{variantAt}
 use Rattle.variant.specs.Tables.{tablesOf}
 use Rattle.variant.specs.declared.Variant.{Variant}
-use Rattle.search.specs.Seen.{Kept, kept, noTally, allSeen}
+use Rattle.tally.specs.Seen.{Kept, allSeen}
 use Rattle.tally.specs.Entries.{run, entriesBelow}
 use Rattle.judge.specs.declared.Campaign.{Campaign}
 
@@ -22,9 +21,8 @@ module _ (c : Campaign) (t : Term) where
   sweptAt cap v k = allSeen (tablesAt v) v cap k
 
   -- After those of the first n variants, and after all.
-  abbrev pub sweptBelow : ℕ → List ℕ → ℕ → Kept
-  sweptBelow cap area n =
-      run (length (planOf (c .tables) .activities)) cap (kept noTally area) (entriesBelow tablesAt n)
+  abbrev pub sweptBelow : ℕ → Kept → ℕ → Kept
+  sweptBelow cap k n = run (length (planOf (c .tables) .activities)) cap k (entriesBelow tablesAt n)
 
-  abbrev pub swept : ℕ → List ℕ → Kept
-  swept cap area = sweptBelow cap area (variantCount t)
+  abbrev pub swept : ℕ → Kept → Kept
+  swept cap k = sweptBelow cap k (variantCount t)

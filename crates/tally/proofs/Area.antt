@@ -11,8 +11,9 @@ use lib.Seq.{take-at, drop-append-add, drop-drop}
 use borrow.Author.Tests.{le-leb}
 use Rattle.base.specs.Lists.{gather}
 use Rattle.base.proofs.Bools.{cond-true}
-use Rattle.scan.specs.Model.{Problem, startOf, starts, found, problemOf, scanOf}
-use Rattle.search.specs.Seen.{Kept, rowPlaced, foundRow, counted}
+use Rattle.scan.specs.Model.{Problem, starts, found, problemOf, scanOf}
+use Rattle.scan.proofs.Starts.{starts-length}
+use Rattle.tally.specs.Seen.{Kept, rowPlaced, foundRow, counted}
 use Rattle.tally.specs.Entries.{Entry, entryOf, entries, entriesBelow, step, run}
 use Rattle.tally.proofs.Entries.{step-counts}
 use Rattle.tally.proofs.Count.{step-count}
@@ -26,14 +27,8 @@ row acts e = e .variant ∷ starts (e .problem) acts (e .ends)
 abbrev pub rows : ℕ → List Entry → List (List ℕ)
 rows acts es = map (row acts) es
 
-pub starts-length : (p : Problem) (n : ℕ) (ends : List ℕ) → length (starts p n ends) ≡ n
-unfolding starts gather
-starts-length p zero ends = refl
-starts-length p (suc n) ends =
-    length-append (starts p n ends) (startOf _ _ ∷ []) ∙ omega (arith, starts-length p n ends)
-
 pub row-length : (acts : ℕ) (e : Entry) → length (row acts e) ≡ suc acts
-row-length acts e = ap suc (starts-length (e .problem) acts (e .ends))
+row-length acts e = ap suc (starts-length (e .problem) (e .ends) acts)
 
 variant-rows : (p : Problem) (v acts : ℕ) (leaves : List (List ℕ))
     → rows acts (map (entryOf p v) leaves) ≡ map (v ∷_) (map (starts p acts) leaves)

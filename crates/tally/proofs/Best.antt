@@ -1,113 +1,106 @@
--- The schedule that is kept: one of those seen, and none of them ends sooner.
+-- The schedule that is kept: one of those seen, and none of them comes before it.
 use Prim.Native.Nat.{ℕ, suc, _+_, _≤_, _<_}
 use native.Mathlib.Nat.{not-suc-le-zero}
-use native.Mathlib.Decide.{decLt}
 use native.Mathlib.Omega.{arith}
-use mathlib.Core.Logic.{by-cases, ⊎-elim}
-use mathlib.Core.Path.{_≡_, refl, ap}
+use mathlib.Core.Logic.{_⊎_, inl, inr, ⊎-elim}
+use mathlib.Core.Path.{_≡_, refl, sym, ap, ap₂, _∙_}
 use mathlib.Core.List.{List, [], _∷_, List·Memᴰ, List·Memᴰ·head, List·Memᴰ·tail, List·Memᴰ·cases-cons}
-use mathlib.Core.List.{List·Memᴰ·eq-of-singleton}
+use mathlib.Core.List.{List·Memᴰ·not-nil, List·Memᴰ·eq-of-singleton}
 use lib.ListN.{length}
-use borrow.Author.Tests.{lt-ltb, le-ltb}
-use Rattle.scan.specs.Model.{starts, lastEnd}
+use borrow.Author.Tests.{lt-ltb}
+use Rattle.base.specs.Order.{isBefore, Before, NotAfter}
+use Rattle.base.proofs.Bools.{by-bool, true-not-false, cond-true, cond-false}
+use Rattle.base.proofs.Order.{other-first, not-self, before-not-after, not-after-trans}
+use Rattle.scan.specs.Model.{lastEnd, starts}
 use Rattle.timetable.specs.Mark.{places}
-use Rattle.search.specs.declared.Tally.{Tally}
-use Rattle.search.specs.Seen.{Kept, Setting, settingOf, better, counted}
+use Rattle.tally.specs.declared.Tally.{Tally}
+use Rattle.tally.specs.Seen.{Kept, settingOf, rankOf, rankKept, better, counted}
 use Rattle.tally.specs.Entries.{Entry, step, run}
 use Rattle.tally.proofs.Entries.{step-counts}
 use Rattle.tally.proofs.Count.{step-count}
 
-abbrev endOf : Entry → ℕ
-endOf e = lastEnd (e .ends)
+abbrev pub rankEntry : Entry → List ℕ
+rankEntry e = rankOf (e .problem) (e .variant) (e .ends)
 
--- The tally keeps e.
-pub record KeepsFound (t : Tally) (e : Entry) : Type 0 where
-  pub end-is : t .«best_end» ≡ lastEnd (e .ends)
-  pub variant-is : t .«best_variant» ≡ e .variant
-  pub starts-are : t .best .starts ≡ starts (e .problem) places (e .ends)
-
--- It keeps one of the entries, and none of them ends sooner.
+-- The tally keeps one of the entries, and none of them comes before it.
 pub record FirstFound (t : Tally) (es : List Entry) : Type 0 where
   pub entry : Entry
   pub one-of : List·Memᴰ entry es
-  pub keeps : KeepsFound t entry
-  pub least : (other : Entry) → List·Memᴰ other es → t .«best_end» ≤ lastEnd (other .ends)
+  pub keeps : rankKept t ≡ rankEntry entry
+  pub first : (other : Entry) → List·Memᴰ other es → NotAfter (rankKept t) (rankEntry other)
 
-better-sooner : (e : Entry) (q : Setting) (t : Tally) → q .variant ≡ e .variant → endOf e < t .«best_end»
-    → KeepsFound (better (e .problem) q t (e .ends)) e
-unfolding better
-better-sooner e q t v l =
-    rw (lt-ltb (endOf e) (t .«best_end») l) (record { end-is = refl; variant-is = v; starts-are = refl })
+-- The rank kept after the entries: the one kept before or one of theirs, and none of these comes before it.
+record Least (rank before : List ℕ) (es : List Entry) : Type 0 where
+  from : (rank ≡ before) ⊎ ((e : Entry) × List·Memᴰ e es × (rank ≡ rankEntry e))
+  low : NotAfter rank before
+  first : (e : Entry) → List·Memᴰ e es → NotAfter rank (rankEntry e)
 
-better-later : (e other : Entry) (q : Setting) (t : Tally) → t .«best_end» ≤ endOf e → KeepsFound t other
-    → KeepsFound (better (e .problem) q t (e .ends)) other
-unfolding better
-better-later e other q t l h =
-    rw (le-ltb (endOf e) (t .«best_end») l)
-    (record { end-is = h .end-is; variant-is = h .variant-is; starts-are = h .starts-are })
+-- One entry, then the others.
+least-cons : (a b c : List ℕ) (e : Entry) (es : List Entry) → Least b a (e ∷ []) → Least c b es → Least c a (e ∷ es)
+least-cons a b c e es one more =
+    record {
+      from =
+          ⊎-elim
+          (λ q.
+          ⊎-elim
+          (λ r. inl (q ∙ r))
+          (λ r. inr (r .0, List·Memᴰ·head (List·Memᴰ·eq-of-singleton (r .1)), q ∙ r .2))
+          (one .from))
+          (λ r. inr (r .0, List·Memᴰ·tail (r .1), r .2))
+          (more .from);
+      low = not-after-trans c b a (more .low) (one .low);
+      first =
+          λ f m.
+          ⊎-elim
+          (λ q. not-after-trans c b (rankEntry f) (more .low) (one .first f (List·Memᴰ·head q)))
+          (λ n. more .first f n)
+          (List·Memᴰ·cases-cons m);
+    }
+
+-- One entry that comes before what was kept, and one that does not.
+module _ (rank before : List ℕ) (e : Entry) where
+  least-new : Before (rankEntry e) before → rank ≡ rankEntry e → Least rank before (e ∷ [])
+  least-new h q =
+      record {
+        from = inr (e, List·Memᴰ·head refl, q);
+        low = ap (isBefore before) q ∙ before-not-after (rankEntry e) before h;
+        first = λ f m. ap₂ isBefore (ap rankEntry (List·Memᴰ·eq-of-singleton m)) q ∙ not-self (rankEntry e);
+      }
+
+  least-old : NotAfter before (rankEntry e) → rank ≡ before → Least rank before (e ∷ [])
+  least-old h q =
+      record {
+        from = inl q;
+        low = ap (isBefore before) q ∙ not-self before;
+        first = λ f m. ap₂ isBefore (ap rankEntry (List·Memᴰ·eq-of-singleton m)) q ∙ h;
+      }
 
 module _ (acts cap : ℕ) where
-  step-sooner : (k : Kept) (e : Entry) → k .tally .count ≤ cap → endOf e < k .tally .«best_end»
-      → KeepsFound (step acts cap k e .tally) e
-  unfolding counted
-  step-sooner k e c l =
-      rw (step-counts acts cap k e c) (better-sooner e (settingOf (e .variant) acts cap) (k .tally) refl l)
+  step-least : (k : Kept) (e : Entry) → k .tally .count ≤ cap
+      → Least (rankKept (step acts cap k e .tally)) (rankKept (k .tally)) (e ∷ [])
+  unfolding counted better
+  step-least k e c =
+      let next : Kept = step acts cap k e in
+      let is : next .tally ≡ better (e .problem) (settingOf (e .variant) acts cap) (k .tally) (e .ends) =
+      ap (λ (x : Kept). x .tally) (step-counts acts cap k e c) in
+      by-bool
+      (isBefore (rankEntry e) (rankKept (k .tally)))
+      (λ y. least-new (rankKept (next .tally)) (rankKept (k .tally)) e y (ap rankKept (is ∙ cond-true _ _ y)))
+      (λ n. least-old (rankKept (next .tally)) (rankKept (k .tally)) e n (ap rankKept (is ∙ cond-false _ _ n)))
 
-  step-later : (k : Kept) (e other : Entry) → k .tally .count ≤ cap → k .tally .«best_end» ≤ endOf e
-      → KeepsFound (k .tally) other → KeepsFound (step acts cap k e .tally) other
-  unfolding counted
-  step-later k e other c l h =
-      rw (step-counts acts cap k e c) (better-later e other (settingOf (e .variant) acts cap) (k .tally) l h)
-
-  -- From a tally that keeps e: the first of e and those that follow.
-  run-first : (k : Kept) (e : Entry) (es : List Entry) → KeepsFound (k .tally) e
-      → k .tally .count + length es ≤ suc cap
-      → FirstFound (run acts cap k es .tally) (e ∷ es)
-  run-first k e [] h c =
+  run-least : (k : Kept) (es : List Entry) → k .tally .count + length es ≤ suc cap
+      → Least (rankKept (run acts cap k es .tally)) (rankKept (k .tally)) es
+  run-least k [] c =
       record {
-        entry = e;
-        one-of = List·Memᴰ·head refl;
-        keeps = h;
-        least = λ other m. omega (arith, h .end-is, ap endOf (List·Memᴰ·eq-of-singleton m));
+        from = inl refl;
+        low = not-self (rankKept (k .tally));
+        first = λ e m. absurd (List·Memᴰ·not-nil m);
       }
-  run-first k e (f ∷ es) h c =
-      let next : Kept = step acts cap k f in
-      let one : next .tally .count ≡ k .tally .count + 1 = step-count acts cap k f (omega arith) in
-      by-cases
-      (decLt (endOf f) (k .tally .«best_end»))
-      (λ s.
-      let ih : FirstFound (run acts cap next es .tally) (f ∷ es) =
-      run-first next f es (step-sooner k f (omega arith) s) (omega arith) in
-      record {
-        entry = ih .entry;
-        one-of = List·Memᴰ·tail (ih .one-of);
-        keeps = ih .keeps;
-        least =
-            λ other m.
-            ⊎-elim
-            (λ q. omega (arith, ap endOf q, h .end-is, ih .least f (List·Memᴰ·head refl)))
-            (λ m′. ih .least other m′)
-            (List·Memᴰ·cases-cons m);
-      })
-      (λ s.
-      let ih : FirstFound (run acts cap next es .tally) (e ∷ es) =
-      run-first next e es (step-later k f e (omega arith) (omega arith) h) (omega arith) in
-      let top : run acts cap next es .tally .«best_end» ≤ endOf e = ih .least e (List·Memᴰ·head refl) in
-      record {
-        entry = ih .entry;
-        one-of = ⊎-elim List·Memᴰ·head (λ m. List·Memᴰ·tail (List·Memᴰ·tail m)) (List·Memᴰ·cases-cons (ih .one-of));
-        keeps = ih .keeps;
-        least =
-            λ other m.
-            ⊎-elim
-            (λ q. omega (arith, ap endOf q))
-            (λ m′.
-            ⊎-elim
-            (λ q. omega (arith, ap endOf q, h .end-is))
-            (λ m″. ih .least other (List·Memᴰ·tail m″))
-            (List·Memᴰ·cases-cons m′))
-            (List·Memᴰ·cases-cons m);
-      })
+  run-least k (e ∷ es) c =
+      let next : Kept = step acts cap k e in
+      let one : next .tally .count ≡ k .tally .count + 1 = step-count acts cap k e (omega arith) in
+      least-cons (rankKept (k .tally)) (rankKept (next .tally)) (rankKept (run acts cap next es .tally)) e es
+      (step-least k e (omega arith)) (run-least next es (omega arith))
 
   -- From a tally whose end is later than every entry's.
   pub best : (k : Kept) (es : List Entry) → 0 < length es → k .tally .count + length es ≤ suc cap
@@ -115,5 +108,15 @@ module _ (acts cap : ℕ) where
       → FirstFound (run acts cap k es .tally) es
   best k [] some c above = absurd (not-suc-le-zero some)
   best k (e ∷ es) some c above =
-      let one : step acts cap k e .tally .count ≡ k .tally .count + 1 = step-count acts cap k e (omega arith) in
-      run-first (step acts cap k e) e es (step-sooner k e (omega arith) (above e (List·Memᴰ·head refl))) (omega arith)
+      let t : Tally = k .tally in
+      let end : ℕ = lastEnd (e .ends) in
+      let later : end < t .«best_end» = above e (List·Memᴰ·head refl) in
+      let before : Before (rankEntry e) (rankKept t) =
+      other-first end (t .«best_end») (e .variant ∷ starts (e .problem) places (e .ends))
+      (t .«best_variant» ∷ t .best .starts) (λ q. omega arith)
+      ∙ lt-ltb end (t .«best_end») later in
+      let least : Least (rankKept (run acts cap k (e ∷ es) .tally)) (rankKept t) (e ∷ es) = run-least k (e ∷ es) c in
+      ⊎-elim
+      (λ q. true-not-false before (ap (isBefore (rankEntry e)) (sym q) ∙ least .first e (List·Memᴰ·head refl)))
+      (λ r. record { entry = r .0; one-of = r .1; keeps = r .2; first = least .first })
+      (least .from)

@@ -5,19 +5,20 @@ use native.Mathlib.Omega.{arith}
 use mathlib.Core.Logic.{by-cases}
 use mathlib.Core.Path.{_≡_, sym, ap, _∙_}
 use mathlib.Core.List.{List, [], _∷_}
-use lib.Dec.{leb, ltb}
+use lib.Dec.{leb}
 use lib.ListN.{length}
 use borrow.Author.Tests.{lt-leb}
+use Rattle.base.specs.Order.{isBefore}
 use Rattle.base.proofs.Bools.{by-bool}
-use Rattle.scan.specs.Model.{Problem, lastEnd}
-use Rattle.search.specs.declared.Tally.{Tally}
-use Rattle.search.specs.Seen.{Kept, Setting, better, counted}
+use Rattle.scan.specs.Model.{Problem}
+use Rattle.tally.specs.declared.Tally.{Tally}
+use Rattle.tally.specs.Seen.{Kept, Setting, rankOf, rankKept, better, counted}
 use Rattle.tally.specs.Entries.{Entry, step, run}
 use Rattle.tally.proofs.Entries.{step-counts, stays}
 
 better-count : (p : Problem) (q : Setting) (t : Tally) (ends : List ℕ) → better p q t ends .count ≡ t .count + 1
 unfolding better
-better-count p q t ends = by-bool (ltb (lastEnd ends) (t .«best_end»)) (λ y. rw y) (λ z. rw z)
+better-count p q t ends = by-bool (isBefore (rankOf p (q .variant) ends) (rankKept t)) (λ y. rw y) (λ z. rw z)
 
 module _ (acts cap : ℕ) where
   pub step-count : (k : Kept) (e : Entry) → k .tally .count ≤ cap

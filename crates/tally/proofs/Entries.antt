@@ -12,7 +12,7 @@ use Rattle.base.specs.Lists.{gather}
 use Rattle.base.proofs.Bools.{cond-true, cond-false}
 use Rattle.base.proofs.Lists.{gather-is, gather-mem}
 use Rattle.scan.specs.Model.{scanOf, problemOf}
-use Rattle.search.specs.Seen.{Kept, settingOf, counted, seen}
+use Rattle.tally.specs.Seen.{Kept, settingOf, counted, seen}
 use Rattle.tally.specs.Entries.{Entry, entryOf, entries, entriesBelow, step, run}
 use Rattle.variant.specs.declared.Variant.{Variant}
 

@@ -1,4 +1,6 @@
--- What the search has kept after all schedules of all variants.
+-- What is kept of a schedule that is found, and after all schedules of all variants.
+pub mod Columns
+pub mod Rows
 pub mod Entries
 pub mod Count
 pub mod Best

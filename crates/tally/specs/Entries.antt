@@ -4,7 +4,7 @@ use Prim.Native.Nat.{ℕ}
 use mathlib.Core.List.{List, map, foldl}
 use Rattle.base.specs.Lists.{gather}
 use Rattle.scan.specs.Model.{Problem, scanOf, problemOf}
-use Rattle.search.specs.Seen.{Kept, settingOf, seen}
+use Rattle.tally.specs.Seen.{Kept, settingOf, seen}
 use Rattle.variant.specs.declared.Variant.{Variant}
 
 pub record Entry : Type 0 where

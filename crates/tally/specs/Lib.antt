@@ -1,2 +1,5 @@
--- What is kept after all schedules of all variants.
+-- What is kept of the schedules that are found.
+pub mod Tables
+pub mod Seen
+pub mod Leaf
 pub mod Entries

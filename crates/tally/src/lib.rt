@@ -1,2 +1,222 @@
-// What the search has kept after all schedules of all variants: their number, one that ends first, and their rows.
-// There is no code here.
+// What is kept of the schedules that are found: their number, the shortest of them that comes first, and their rows.
+use candidates::Work;
+use network::ACTS;
+use network::CAP;
+use network::Table;
+use network::VARIANT;
+use network::duration_of;
+use plan::MOST_ACTS;
+use timetable::Timetable;
+ghost use mathlib.Core.Path.{_≡_};
+ghost use mathlib.Core.List.{_++_};
+ghost use Prim.Native.Nat.{_+_, _*_, _≤_, _<_};
+ghost use lib.ListN.{length, take, drop};
+ghost use Rattle.base.specs.Order.{isBefore};
+ghost use Rattle.timetable.specs.Mark.{places};
+ghost use Rattle.scan.specs.Model.{startOf, starts};
+ghost use Rattle.network.specs.Network.{actsOf};
+ghost use Rattle.tally.specs.Tables.{problemIn};
+ghost use Rattle.plan.specs.Limits.{cellValues, wordValues};
+ghost use Rattle.tally.specs.Seen.{startsFrom, rowPlaced, settingIn, rowIn, keptOf, IsTally, tallyOf, better};
+ghost use Rattle.tally.specs.Seen.{seenIn, noTally, rankIn, rankKept};
+ghost use Rattle.tally.specs.Leaf.{Ended, Fit, Leaf};
+
+// How many schedules were found, and the first shortest of them: its latest end, its variant and its starts.
+pub struct Tally {
+    pub count: u64,
+    pub best_end: u64,
+    pub best_variant: u64,
+    pub best: Timetable,
+}
+
+impl Tally {
+    // Nothing found yet; only a schedule that ends by `end` is to be kept.
+    pub fn none(end: u32) -> Tally
+        ensures { λ r. ⌜ r ≡ noTally end ⌝ }
+    {
+        let best = Timetable::empty();
+        Tally {
+            count: 0,
+            best_end: end as u64,
+            best_variant: 0,
+            best,
+        }
+    }
+}
+
+// The cells of a tally: how many schedules were found, the least latest end, its variant, and from STARTS on a start
+// for each activity number.
+pub const COUNT: usize = 0;
+
+pub const BEST_END: usize = 1;
+
+pub const BEST_VARIANT: usize = 2;
+
+pub const STARTS: usize = 3;
+
+pub const TALLY_CELLS: usize = STARTS + MOST_ACTS;
+
+pub type Cells = [u64; TALLY_CELLS];
+
+fn start_of(end: u32, duration: u32) -> u16
+    requires { ⌜ (end < cellValues) × ((end ≡ 0 → ⊥) → duration ≤ end) ⌝ }
+    ensures { λ r. ⌜ r ≡ startOf end duration ⌝ }
+{
+    if end == 0 {
+        Timetable::MARK
+    } else {
+        (end - duration) as u16
+    }
+}
+
+// A row is the variant's number and then a start for each of the plan's activities.
+fn write_row(row: &mut [u16], table: &Table, work: &Work)
+    requires { ⌜ Ended (now table) (now work) × Fit (now table) × (actsOf (now table) + 1 ≤ length (now row)) ⌝ }
+    ensures { λ _.
+        ⌜ now (row .exit)
+        ≡ rowIn (now (table .entry)) (now (work .entry))
+        ++ drop (actsOf (now (table .entry)) + 1) (now (row .entry)) ⌝ }
+{
+    let acts = table[ACTS] as usize;
+    row[0] = table[VARIANT] as u16;
+    let mut i = 0;
+    while i < acts {
+        row[1 + i] = start_of(work[i], duration_of(table[i]));
+        i += 1;
+    }
+}
+
+// The row in its own stretch of the area, where that is long enough.
+fn list(table: &Table, work: &Work, count: u64, area: &mut [u16])
+    requires { ⌜ Ended (now table) (now work) × Fit (now table) × (count < wordValues) ⌝ }
+    ensures { λ _.
+        ⌜ now (area .exit)
+        ≡ rowPlaced (now (area .entry)) (count * (actsOf (now (table .entry)) + 1))
+        (rowIn (now (table .entry)) (now (work .entry))) ⌝ }
+{
+    let acts = table[ACTS] as usize;
+    let at = (count as usize) * (acts + 1);
+    if at + acts + 1 <= area.len() {
+        write_row(&mut area[at..], table, work);
+    }
+}
+
+// The starts go into their cells.
+fn keep(table: &Table, work: &Work, cells: &mut Cells)
+    requires { ⌜ Ended (now table) (now work) × IsTally (now cells) ⌝ }
+    ensures { λ _. ⌜ IsTally (now (cells .exit)) ⌝ }
+    ensures { λ _.
+        ⌜ now (cells .exit)
+        ≡ take startsFrom (now (cells .entry)) ++ starts (problemIn (now (table .entry))) places (now (work .entry)) ⌝ }
+{
+    let mut i = 0;
+    while i < MOST_ACTS {
+        cells[STARTS + i] = start_of(work[i], duration_of(table[i])) as u64;
+        i += 1;
+    }
+}
+
+// The starts come before those kept.
+fn starts_before(table: &Table, work: &Work, cells: &Cells) -> bool
+    requires { ⌜ Ended (now table) (now work) × IsTally (now cells) ⌝ }
+    ensures { λ r.
+        ⌜ r
+        ≡ isBefore (starts (problemIn (now (table .entry))) places (now (work .entry)))
+        (drop startsFrom (now (cells .entry))) ⌝ }
+{
+    let mut i = 0;
+    while i < MOST_ACTS {
+        let start = start_of(work[i], duration_of(table[i])) as u64;
+        if start != cells[STARTS + i] {
+            return start < cells[STARTS + i];
+        }
+        i += 1;
+    }
+    false
+}
+
+// The schedule comes before the one kept: by its latest end, then by its variant, then by its starts.
+fn is_before(table: &Table, work: &Work, latest: u32, cells: &Cells) -> bool
+    requires { ⌜ Leaf (now table) (now work) latest (now cells) ⌝ }
+    ensures { λ r.
+        ⌜ r
+        ≡ isBefore (rankIn (now (table .entry)) (now (work .entry))) (rankKept (tallyOf (now (cells .entry)))) ⌝ }
+{
+    let end = latest as u64;
+    if end != cells[BEST_END] {
+        return end < cells[BEST_END];
+    }
+    let variant = table[VARIANT] as u64;
+    if variant != cells[BEST_VARIANT] {
+        return variant < cells[BEST_VARIANT];
+    }
+    starts_before(table, work, cells)
+}
+
+// The schedule is counted, and kept where it comes before the one kept.
+fn rank(table: &Table, work: &Work, latest: u32, cells: &mut Cells)
+    requires { ⌜ Leaf (now table) (now work) latest (now cells) × (tallyOf (now cells) .count < wordValues) ⌝ }
+    ensures { λ _. ⌜ IsTally (now (cells .exit)) ⌝ }
+    ensures { λ _.
+        ⌜ tallyOf (now (cells .exit))
+        ≡ better (problemIn (now (table .entry))) (settingIn (now (table .entry))) (tallyOf (now (cells .entry)))
+        (now (work .entry)) ⌝ }
+{
+    cells[COUNT] = cells[COUNT] + 1;
+    if is_before(table, work, latest, cells) {
+        cells[BEST_END] = latest as u64;
+        cells[BEST_VARIANT] = table[VARIANT] as u64;
+        keep(table, work, cells);
+    }
+}
+
+// Once there are more than the cap, nothing more is done.
+pub fn leave(table: &Table, work: &Work, latest: u32, cells: &mut Cells, area: &mut [u16])
+    requires { ⌜ Leaf (now table) (now work) latest (now cells) ⌝ }
+    ensures { λ _. ⌜ IsTally (now (cells .exit)) ⌝ }
+    ensures { λ _.
+        ⌜ keptOf (now (cells .exit)) (now (area .exit))
+        ≡ seenIn (now (table .entry)) (keptOf (now (cells .entry)) (now (area .entry))) (now (work .entry)) ⌝ }
+{
+    if cells[COUNT] <= table[CAP] as u64 {
+        list(table, work, cells[COUNT], area);
+        rank(table, work, latest, cells);
+    }
+}
+
+// The cells that hold a tally.
+pub fn cells_of(tally: Tally) -> Cells
+    ensures { λ r. ⌜ IsTally r × (tallyOf r ≡ tally) ⌝ }
+{
+    let mut cells = [0; TALLY_CELLS];
+    cells[COUNT] = tally.count;
+    cells[BEST_END] = tally.best_end;
+    cells[BEST_VARIANT] = tally.best_variant;
+    let best = tally.best;
+    let starts = best.starts;
+    let mut i = 0;
+    while i < MOST_ACTS {
+        cells[STARTS + i] = starts[i] as u64;
+        i += 1;
+    }
+    cells
+}
+
+// The tally that the cells hold.
+pub fn tally_of(cells: &Cells) -> Tally
+    requires { ⌜ IsTally (now cells) ⌝ }
+    ensures { λ r. ⌜ r ≡ tallyOf (now (cells .entry)) ⌝ }
+{
+    let mut best = Timetable::empty();
+    let mut i = 0;
+    while i < MOST_ACTS {
+        best.starts[i] = cells[STARTS + i] as u16;
+        i += 1;
+    }
+    Tally {
+        count: cells[COUNT],
+        best_end: cells[BEST_END],
+        best_variant: cells[BEST_VARIANT],
+        best,
+    }
+}

@@ -5,6 +5,7 @@ use mathlib.Core.List.{List}
 use mathlib.Core.Path.{_≡_, refl, ap, _∙_, subst}
 use lib.Dec.{leb, ltb}
 use lib.ListN.{length}
+use Rattle.plan.specs.Outcome.{Outcome}
 use Rattle.plan.specs.Plan.{Plan}
 use Rattle.plan.specs.declared.Refusal.{Refusal}
 use Rattle.format.specs.Text.{text}
@@ -17,17 +18,21 @@ use Rattle.variant.specs.Written.{written}
 use Rattle.judge.specs.Judge.{Verdict, accepts, refuses, judge}
 use Rattle.judge.proofs.Accepts.{accepted-valid}
 use Rattle.read.specs.Answer.{answerTo, readOf}
-use Rattle.write.specs.Answer.{Outcome, placedBy, writeVariant, writeBy, writeOf}
+use Rattle.write.specs.Answer.{placedBy, writeVariant, writeBy, writeOf}
 use Rattle.inspect.specs.Answer.{checkBy, checkOf}
 use Rattle.answers.specs.Count.{countBy, countOf}
-use Rattle.answers.specs.Listed.{cellsNeeded, Lists, ListsBy, ListOf}
-use Rattle.answers.specs.Shortest.{BestOfPairs, BestBy, BestOf}
+use Rattle.answers.specs.Listed.{cellsNeeded, listWithin, listBy, listOf}
+use Rattle.answers.specs.Shortest.{bestWithin, bestBy, bestOf}
 use Rattle.answers.specs.declared.Best.{Best}
-use Rattle.answers.specs.declared.BestAnswer.{BestAnswer}
 use Rattle.answers.specs.declared.ListAnswer.{ListAnswer}
+use Rattle.write.specs.declared.WriteAnswer.{WriteAnswer}
 use Rattle.vialbluff.specs.Cells.{readCells, writeCells, checkCells, countCells, listCells, bestCells, startsKept}
 use Rattle.vialbluff.specs.Cells.{WriteLeaves, ListLeaves, BestLeaves}
 use Rattle.theorems.specs.TurnedBack.{IsRefusal, LeavesArea, TurnedBack, Untouched}
+
+-- What BEST leaves of the lent starts.
+abbrev kept : Best → List ℕ → List ℕ
+kept best before = startsKept (best .answer) (best .timetable .starts) before
 
 module _ (s : List ℕ) (r : Refusal) (e : judge s ≡ refuses r) where
   wrote : (v : ℕ) (before after out : List ℕ) → WriteLeaves s v before after out → LeavesArea r before after out
@@ -39,18 +44,19 @@ module _ (s : List ℕ) (r : Refusal) (e : judge s ≡ refuses r) where
       }
 
   listed : (cap : ℕ) (before after out : List ℕ) → ListLeaves s cap before after out → LeavesArea r before after out
-  unfolding ListOf
+  unfolding listOf
   listed cap before after out w =
-      let says = subst (λ (o : Verdict). ListsBy o cap before (w .answer) after) e (w .listing) in
-      record { answer = w .cells ∙ ap listCells (says .0); area = says .1 }
+      record {
+        answer = w .cells ∙ ap (λ (o : Verdict). listCells (listBy o cap before .answer)) e;
+        area = w .area ∙ ap (λ (o : Verdict). listBy o cap before .area) e;
+      }
 
   found : (cap : ℕ) (before after out : List ℕ) → BestLeaves s cap before after out → LeavesArea r before after out
-  unfolding BestOf
+  unfolding bestOf
   found cap before after out w =
-      let says = subst (λ (o : Verdict). BestBy o cap (w .best)) e (w .finding) in
       record {
-        answer = w .cells ∙ ap bestCells (says .0);
-        area = w .starts ∙ ap (λ (a : BestAnswer). startsKept a (w .best .timetable .starts) before) (says .0);
+        answer = w .cells ∙ ap (λ (o : Verdict). bestCells (bestBy o cap .answer)) e;
+        area = w .starts ∙ ap (λ (o : Verdict). kept (bestBy o cap) before) e;
       }
 
   pub turned-back : TurnedBack s r
@@ -76,7 +82,7 @@ module _ (s : List ℕ) (unfit : (p : Plan) (t : Term) → Valid p t → s ≡ t
 
 -- An area is changed only where the answer's first cell is 0.
 module _ (v : ℕ) (before : List ℕ) where
-  abbrev Stays : Outcome → Type 0
+  abbrev Stays : Outcome WriteAnswer → Type 0
   Stays o = IsRefusal (writeCells (o .answer)) → o .area ≡ before
 
   stays-placed : (fits : Bool) (bytes : List ℕ) → Stays (placedBy fits bytes before)
@@ -92,32 +98,33 @@ module _ (v : ℕ) (before : List ℕ) where
   stays-write (accepts p t) h = stays-variant p t (ltb v (variantCount t)) h
   stays-write (refuses r) h = refl
 
-module _ (before after : List ℕ) (answer : ListAnswer) (h : IsRefusal (listCells answer)) where
-  stays-pairs : (p : Plan) (t : Term) (capped fits : Bool) → Lists capped fits p t before answer after
-      → after ≡ before
-  stays-pairs p t false fits says = says .1
-  stays-pairs p t true false says = says .1
-  stays-pairs p t true true says = absurd (subst (λ (a : ListAnswer). IsRefusal (listCells a)) (says .0) h refl)
+module _ (cap : ℕ) (before : List ℕ) where
+  abbrev StaysListed : Outcome ListAnswer → Type 0
+  StaysListed o = IsRefusal (listCells (o .answer)) → o .area ≡ before
 
-  stays-list : (o : Verdict) (cap : ℕ) → ListsBy o cap before answer after → after ≡ before
-  stays-list (accepts p t) cap says =
-      stays-pairs p t (leb (pairCount p t) cap) (leb (cellsNeeded p t) (length before)) says
-  stays-list (refuses r) cap says = says .1
+  stays-pairs : (p : Plan) (t : Term) (capped fits : Bool) → StaysListed (listWithin capped fits p t before)
+  stays-pairs p t false fits h = refl
+  stays-pairs p t true false h = refl
+  stays-pairs p t true true h = absurd (h refl)
 
-module _ (best : Best) (before : List ℕ) (h : IsRefusal (bestCells (best .answer))) where
-  abbrev kept : BestAnswer → List ℕ
-  kept a = startsKept a (best .timetable .starts) before
+  stays-list : (o : Verdict) → StaysListed (listBy o cap before)
+  stays-list (accepts p t) h =
+      stays-pairs p t (leb (pairCount p t) cap) (leb (cellsNeeded p t) (length before)) h
+  stays-list (refuses r) h = refl
 
-  stays-found : (p : Plan) (t : Term) (capped : Bool) → BestOfPairs capped p t best → kept (best .answer) ≡ before
-  stays-found p t true says = absurd (subst (λ (a : BestAnswer). IsRefusal (bestCells a)) (says .answer) h refl)
-  stays-found p t false says = ap kept (says .0)
+  abbrev StaysKept : Best → Type 0
+  StaysKept best = IsRefusal (bestCells (best .answer)) → kept best before ≡ before
 
-  stays-best : (o : Verdict) (cap : ℕ) → BestBy o cap best → kept (best .answer) ≡ before
-  stays-best (accepts p t) cap says = stays-found p t (leb (pairCount p t) cap) says
-  stays-best (refuses r) cap says = ap kept (says .0)
+  stays-found : (p : Plan) (t : Term) (capped : Bool) → StaysKept (bestWithin capped p t)
+  stays-found p t true h = absurd (h refl)
+  stays-found p t false h = refl
+
+  stays-best : (o : Verdict) → StaysKept (bestBy o cap)
+  stays-best (accepts p t) h = stays-found p t (leb (pairCount p t) cap) h
+  stays-best (refuses r) h = refl
 
 pub untouched : (s : List ℕ) → Untouched s
-unfolding writeOf ListOf BestOf
+unfolding writeOf listOf bestOf
 untouched s =
     record {
       write =
@@ -125,8 +132,8 @@ untouched s =
           w .area ∙ stays-write v before (judge s) (subst IsRefusal (w .cells) h);
       list =
           λ cap before after out w h.
-          stays-list before after (w .answer) (subst IsRefusal (w .cells) h) (judge s) cap (w .listing);
+          w .area ∙ stays-list cap before (judge s) (subst IsRefusal (w .cells) h);
       best =
           λ cap before after out w h.
-          w .starts ∙ stays-best (w .best) before (subst IsRefusal (w .cells) h) (judge s) cap (w .finding);
+          w .starts ∙ stays-best cap before (judge s) (subst IsRefusal (w .cells) h);
     }

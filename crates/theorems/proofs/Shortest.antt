@@ -1,11 +1,12 @@
--- BEST's contract in the words of the mission.
+-- What BEST answers, in the words of the mission.
 use Prim.Native.Nat.{ℕ, _≤_, _<_}
+use native.Mathlib.Omega.{arith}
 use mathlib.Core.Bool.{Bool}
-use mathlib.Core.List.{List, perm-ext-iff-of-nodup}
+use mathlib.Core.List.{List, _∷_, perm-ext-iff-of-nodup}
 use mathlib.Core.Logic.{∥∥₁-map}
-use mathlib.Core.Path.{_≡_, sym, _∙_, subst}
+use mathlib.Core.Path.{_≡_, sym, ap, _∙_, subst}
 use borrow.Author.Tests.{le-leb, lt-leb}
-use lib.ListN.{length, take}
+use lib.ListN.{length}
 use Rattle.base.proofs.Lists.{perm-length}
 use Rattle.plan.specs.Plan.{Plan}
 use Rattle.plan.specs.declared.Refusal.the-variants.{OverCap}
@@ -13,18 +14,21 @@ use Rattle.term.specs.Term.{Term}
 use Rattle.term.specs.Valid.{Valid}
 use Rattle.term.specs.Variants.{variantCount}
 use Rattle.schedule.specs.Schedule.{Starts}
+use Rattle.schedule.specs.Sessions.{startsOf}
+use Rattle.schedule.proofs.Reflect.{Feasible, feasible-is, feasible-of}
 use Rattle.variant.specs.Pairs.{pairs, pairCount}
-use Rattle.variant.specs.Project.{variantAt}
+use Rattle.variant.specs.Project.{variantAt, projectOf}
+use Rattle.variant.specs.Timetable.{timetableOf}
 use Rattle.variant.specs.Words.{Present, Keeps}
 use Rattle.variant.proofs.RoundTrip.{variant-below}
 use Rattle.variant.proofs.Words.{keeps-is, keeps-of, session-means}
 use Rattle.judge.specs.Judge.{accepts}
-use Rattle.answers.specs.Shortest.{FeasibleIn, Shortest, Finds, BestOfPairs, BestBy}
-use Rattle.answers.specs.declared.Best.{Best}
-use Rattle.answers.specs.declared.BestAnswer.the-variants.{Found, Refused}
-use Rattle.plan_exact.proofs.Meaning.{pairs-listing}
-use Rattle.plan_exact.proofs.Pairs.{pair-is, shortest-checks}
-use Rattle.theorems.specs.Shortest.{ActiveSessions, SessionOfVariant, ShortestSession}
+use Rattle.answers.specs.Shortest.{makespanIn, firstShortest, bestRow, noBest, bestWithin, bestBy}
+use Rattle.plan_exact.proofs.Meaning.{pairs-listing, best-first}
+use Rattle.plan_exact.proofs.Pairs.{pair-is, pair-checks, pair-span}
+use Rattle.plan_exact.proofs.Shortest.{First, first-shortest, first-active, first-least, first-chains, first-loads}
+use Rattle.plan_exact.proofs.Shortest.{first-at-most}
+use Rattle.theorems.specs.Shortest.{ActiveSessions, SessionOfVariant, ShortestSession, Between}
 
 module _ (p : Plan) (t : Term) (valid : Valid p t) where
   -- The number of active sessions is that of COUNT's pairs.
@@ -47,51 +51,63 @@ module _ (p : Plan) (t : Term) (valid : Valid p t) where
     inside : (i : ℕ) → Present (variantAt t v) i → i < length (p .activities)
     inside = variant-below p t v (record { valid = valid; below = below })
 
-    feasible-of-words : (S : Starts) → Keeps p (variantAt t v) S → FeasibleIn p t v S
-    feasible-of-words S k = (below, keeps-of p (variantAt t v) (valid .ranges) inside S k)
+    tested : (S : Starts) → Keeps p (variantAt t v) S → Feasible (projectOf p (variantAt t v)) S
+    tested S k =
+        feasible-is (projectOf p (variantAt t v)) S (keeps-of p (variantAt t v) (valid .ranges) inside S k)
 
-    words-of-feasible : (S : Starts) → FeasibleIn p t v S → SessionOfVariant p t v S
-    words-of-feasible S f =
-        record { below = below; keeps = keeps-is p (variantAt t v) (valid .ranges) inside S (f .1) }
+    in-words : (S : Starts) → Feasible (projectOf p (variantAt t v)) S → SessionOfVariant p t v S
+    in-words S f =
+        record {
+          below = below;
+          keeps =
+              keeps-is p (variantAt t v) (valid .ranges) inside S (feasible-of (projectOf p (variantAt t v)) S f);
+        }
 
-  in-test : (v : ℕ) (S : Starts) → SessionOfVariant p t v S → FeasibleIn p t v S
-  in-test v S s = feasible-of-words v (s .below) S (s .keeps)
+  -- The first shortest pair is a shortest session,
+  module _ (v : ℕ) (ss : List ℕ) (first : First p t (v ∷ ss)) where
+    abbrev span : ℕ
+    span = makespanIn p t v (startsOf ss)
 
-  in-words : (v : ℕ) (S : Starts) → FeasibleIn p t v S → SessionOfVariant p t v S
-  in-words v S f = words-of-feasible v (f .0) S f
+    below : v < variantCount t
+    below = pair-is p t v ss (first .one-of) .below
 
-  pub shortest-words : (v span : ℕ) (timetable : List ℕ) → Shortest p t v span timetable
-      → ShortestSession p t v span timetable
-  shortest-words v span timetable s =
-      let pair = pair-is p t v (take (length (p .activities)) timetable) (s .one-of) in
-      let means = session-means p (variantAt t v) (valid .ranges) (inside v (pair .below)) timetable in
-      record {
-        below = pair .below;
-        session = means .0 (shortest-checks p t valid v span timetable s);
-        own = s .its-own;
-        least = λ u S f. s .least u S (in-test u S f);
-        exactly = λ u S f. (
-          λ e x R g l. s .exactly u S (in-test u S f) .0 e x R (in-test x R g) l,
-          λ none. s .exactly u S (in-test u S f) .1 (λ x R g l. none x R (in-words x R g) l),
-        );
-      }
+    least : (u : ℕ) (S : Starts) → SessionOfVariant p t u S → span ≤ makespanIn p t u S
+    least u S f = first-least p t valid v ss first u S (f .below) (tested u (f .below) S (f .keeps))
 
--- What is answered where the sessions are within the cap, and where they are not.
-module _ (p : Plan) (t : Term) (valid : Valid p t) (cap : ℕ) (best : Best) (says : BestBy (accepts p t) cap best)
-  where
-    pub over : cap < pairCount p t → best .answer ≡ Refused OverCap
-    over l = subst (λ (b : Bool). BestOfPairs b p t best) (lt-leb (pairCount p t) cap l) says .0
+    pub shortest-words : ShortestSession p t v span (timetableOf p ss)
+    shortest-words =
+        record {
+          below = below;
+          session =
+              session-means p (variantAt t v) (valid .ranges) (inside v below) (timetableOf p ss) .0
+              (pair-checks p t valid v ss (first .one-of));
+          own = pair-span p t valid v ss (first .one-of);
+          least = least;
+          exactly = λ u S f. (
+            λ e x R g l. absurd (omega (arith, least x R g)),
+            λ none.
+                let own : SessionOfVariant p t v (startsOf ss) =
+                in-words v below (startsOf ss) (first-active p t valid v ss first .is-feasible) in
+                omega (arith, least u S f, none v (startsOf ss) own),
+          );
+        }
 
-    found : pairCount p t ≤ cap → Finds p t best
-    found l = subst (λ (b : Bool). BestOfPairs b p t best) (le-leb (pairCount p t) cap l) says
+    pub shortest-between : Between p t v span
+    shortest-between =
+        record {
+          chains = first-chains p t valid v ss first;
+          loads = first-loads p t valid v ss first;
+          at-most = first-at-most p t valid v ss first;
+        }
 
-    pub within : pairCount p t ≤ cap
-        → (v span : ℕ) × (best .answer ≡ Found v span (pairCount p t)) × ShortestSession p t v span
-        (best .timetable .starts)
-    within l =
-        let f = found l in (
-          f .variant,
-          f .span,
-          f .answer,
-          shortest-words p t valid (f .variant) (f .span) (best .timetable .starts) (f .shortest),
-        )
+  -- and BEST answers it.
+  pub row-first : (v : ℕ) × (ss : List ℕ) × (firstShortest p t ≡ v ∷ ss) × First p t (v ∷ ss)
+  row-first =
+      let r = best-first p t valid .one-of in
+      (r .variant, r .starts, r .whole, subst (First p t) (r .whole) (first-shortest p t valid))
+
+  pub over : (cap : ℕ) → cap < pairCount p t → bestBy (accepts p t) cap ≡ noBest OverCap
+  over cap l = ap (λ (b : Bool). bestWithin b p t) (lt-leb (pairCount p t) cap l)
+
+  pub within : (cap : ℕ) → pairCount p t ≤ cap → bestBy (accepts p t) cap ≡ bestRow p t (firstShortest p t)
+  within cap l = ap (λ (b : Bool). bestWithin b p t) (le-leb (pairCount p t) cap l)

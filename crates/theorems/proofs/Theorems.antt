@@ -16,6 +16,7 @@ use Rattle.plan.specs.declared.Refusal.{Refusal}
 use Rattle.plan.specs.declared.Refusal.the-variants.{OverCap}
 use Rattle.format.specs.Text.{text}
 use Rattle.format.proofs.Longest.{longestPlan}
+use Rattle.schedule.specs.Sessions.{startsOf}
 use Rattle.term.specs.Term.{Term, full, termOf}
 use Rattle.term.specs.Valid.{Valid}
 use Rattle.term.specs.Variants.{variants, variantCount, activities, twice}
@@ -40,18 +41,18 @@ use Rattle.inspect.specs.Answer.{checkOf}
 use Rattle.inspect.specs.Words.{SessionOf}
 use Rattle.inspect.specs.declared.CheckAnswer.the-variants.{Checked}
 use Rattle.inspect.proofs.Meaning.{check-yes}
-use Rattle.answers.specs.Listed.{ListOf}
-use Rattle.answers.specs.Shortest.{BestBy, BestOf}
-use Rattle.answers.specs.Words.{ListingOf}
+use Rattle.answers.specs.Listed.{listOf}
+use Rattle.answers.specs.Shortest.{makespanIn, rowVariant, rowSpan, firstShortest, bestRow, bestBy, bestOf}
+use Rattle.answers.specs.Words.{Listing, ListingOf, FirstShortest}
 use Rattle.answers.specs.declared.Best.{Best}
 use Rattle.answers.specs.declared.BestAnswer.the-variants.{Found, Refused}
 use Rattle.answers.specs.declared.ListAnswer.the-variants.{Listed}
-use Rattle.plan_exact.proofs.Meaning.{list-listing}
+use Rattle.plan_exact.proofs.Meaning.{list-listing, pairs-listing, best-first}
 use Rattle.plan_exact.proofs.Pairs.{pair-checks}
 use Rattle.theorems.specs.TurnedBack.{TurnedBack, Untouched}
-use Rattle.theorems.specs.Shortest.{ActiveSessions, ShortestSession}
+use Rattle.theorems.specs.Shortest.{ActiveSessions, ShortestSession, Between}
 use Rattle.theorems.proofs.Refused.{unfit-turned-back, untouched}
-use Rattle.theorems.proofs.Shortest.{active-count, over, within}
+use Rattle.theorems.proofs.Shortest.{active-count, shortest-words, shortest-between, row-first, over, within}
 
 -- 1. "Memory lent to it, of any length and content, is read within its ends and written only where the call names it;
 -- every call finishes; an unfit plan is refused by a fixed number; a refusal leaves the lent area as it stood."
@@ -71,7 +72,8 @@ demand-1 s = (unfit-turned-back s, untouched s)
 -- listing; and the bytes that WRITE leaves are accepted as the variant.
 pub demand-2 : (s : List ℕ) (p : Plan) (t : Term) → judge s ≡ accepts p t
     → ((w : Term) → List·Memᴰ w (variants t) ↔ Reduced t w)
-    × ((cap n : ℕ) (before after : List ℕ) → ListOf s cap before (Listed n) after → ListingOf s n before after)
+    × ((cap n : ℕ) (before after : List ℕ) → listOf s cap before ≡ record { answer = Listed n; area = after }
+    → ListingOf s n before after)
     × ((v n : ℕ) (area after : List ℕ) → writeOf s v area ≡ record { answer = Written n; area = after }
     → RoundTrip s v (take n after))
 demand-2 s p t accepted = (
@@ -80,6 +82,11 @@ demand-2 s p t accepted = (
   λ v n area after. round-trip s v area n after,
 )
 
+-- The listing that LIST writes is the list of pairs: exactly the active sessions of the variants, increasing strictly
+-- by the variant and then by the starts of the present activities, and so each once.
+pub listing-ordered : (p : Plan) (t : Term) → Valid p t → Listing p t (pairs p t)
+listing-ordered = pairs-listing
+
 -- 3. "For every accepted plan and every cap, the planner asked for a shortest session stops without one exactly if
 -- the variants together have more active sessions than the cap. Otherwise the session handed back is feasible for the
 -- variant named with it, the makespan and the count are its own makespan and the number of those active sessions; any
@@ -87,31 +94,56 @@ demand-2 s p t accepted = (
 -- equal exactly when no feasible session of any variant is shorter than S."
 pub demand-3 : (s : List ℕ) (p : Plan) (t : Term) → judge s ≡ accepts p t
     → (n : ℕ) → ActiveSessions p t n
-    → (cap : ℕ) (best : Best) → BestOf s cap best
-    → ((best .answer ≡ Refused OverCap) ↔ (cap < n))
-    ×
-    (n ≤ cap → (v span : ℕ) × (best .answer ≡ Found v span n) × ShortestSession p t v span (best .timetable .starts))
-unfolding BestOf
-demand-3 s p t accepted n active cap best contract =
+    → (cap : ℕ)
+    → ((bestOf s cap .answer ≡ Refused OverCap) ↔ (cap < n))
+    × (n ≤ cap
+    → (v span : ℕ) × (bestOf s cap .answer ≡ Found v span n)
+    × ShortestSession p t v span (bestOf s cap .timetable .starts))
+unfolding bestOf
+demand-3 s p t accepted n active cap =
     let valid : Valid p t = accepted-valid s p t accepted .0 in
-    let says : BestBy (accepts p t) cap best = subst (λ (o : Verdict). BestBy o cap best) accepted contract in
     let count : n ≡ pairCount p t = active-count p t valid n active in
-    let found = within p t valid cap best says in (
+    let is = ap (λ (o : Verdict). bestBy o cap) accepted in
+    let (v, ss, row, first) = row-first p t valid in
+    let found : n ≤ cap → bestBy (judge s) cap ≡ bestRow p t (v ∷ ss) =
+    λ l. is ∙ within p t valid cap (omega arith) ∙ ap (bestRow p t) row in (
       (
         λ refused.
             by-cases
             (decLe n cap)
-            (λ l. let (v, span, answer, _) = found (omega arith) in absurd (never (sym answer ∙ refused)))
+            (λ l. absurd (never (sym (ap (λ (b : Best). b .answer) (found l)) ∙ refused)))
             (λ g. omega arith),
-        λ l. over p t valid cap best says (omega arith),
+        λ l. ap (λ (b : Best). b .answer) (is ∙ over p t valid cap (omega arith)),
       ),
-      λ l.
-          let (v, span, answer, shortest) = found (omega arith) in
-          (v, span, answer ∙ ap (Found v span) (sym count), shortest),
+      λ l. (
+        v,
+        makespanIn p t v (startsOf ss),
+        ap (λ (b : Best). b .answer) (found l) ∙ ap (Found v (makespanIn p t v (startsOf ss))) (sym count),
+        subst (ShortestSession p t v (makespanIn p t v (startsOf ss)))
+            (sym (ap (λ (b : Best). b .timetable .starts) (found l)))
+            (shortest-words p t valid v ss first),
+      ),
     )
   where
     never : {v span m : ℕ} → Found v span m ≡ Refused OverCap → ⊥
     never e = let z : _≡_ {A = ℕ} 0 1 = cc in omega arith
+
+-- Which shortest: BEST answers a row of that listing that stands before every other of its makespan. The makespan is at
+-- least the chains and loads of its variant, and at most the sum of its durations.
+pub first-shortest-row : (s : List ℕ) (p : Plan) (t : Term) → judge s ≡ accepts p t
+    → (cap : ℕ) → pairCount p t ≤ cap
+    → (row : List ℕ) × (bestOf s cap ≡ bestRow p t row) × FirstShortest p t row
+    × Between p t (rowVariant row) (rowSpan p t row)
+unfolding bestOf
+first-shortest-row s p t accepted cap l =
+    let valid : Valid p t = accepted-valid s p t accepted .0 in
+    let (v, ss, whole, first) = row-first p t valid in (
+      firstShortest p t,
+      ap (λ (o : Verdict). bestBy o cap) accepted ∙ within p t valid cap l,
+      best-first p t valid,
+      subst (λ (row : List ℕ). Between p t (rowVariant row) (rowSpan p t row)) (sym whole)
+          (shortest-between p t valid v ss first),
+    )
 
 -- Which files are accepted: exactly the texts of valid plans.
 pub accepted-texts : (s : List ℕ) (p : Plan) (t : Term) → (judge s ≡ accepts p t) ↔ (Valid p t × (s ≡ text p))

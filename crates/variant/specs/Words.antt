@@ -45,3 +45,10 @@ pub record ActiveSession (p : Plan) (w : Term) (row : List ℕ) : Type 0 where
   pub marks : MarksAbsent w (length (p .activities)) row
   pub keeps : Keeps p w (startsOf row)
   pub least : (j t : ℕ) → Present w j → t < startsOf row j → Keeps p w (moved (startsOf row) j t) → ⊥
+
+-- Session a of the variant stands before b: at the first of its activities at which they differ it starts sooner.
+pub record Sooner (w : Term) (a b : List ℕ) : Type 0 where
+  pub activity : ℕ
+  pub present : Present w activity
+  pub sooner : startsOf a activity < startsOf b activity
+  pub same : (i : ℕ) → Present w i → i < activity → startsOf a i ≡ startsOf b i

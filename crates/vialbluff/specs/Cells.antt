@@ -12,9 +12,8 @@ use Rattle.write.specs.declared.WriteAnswer.{WriteAnswer}
 use Rattle.write.specs.declared.WriteAnswer.the-variants as Write
 use Rattle.inspect.specs.declared.CheckAnswer.{CheckAnswer}
 use Rattle.inspect.specs.declared.CheckAnswer.the-variants as Check
-use Rattle.answers.specs.Listed.{ListOf}
-use Rattle.answers.specs.Shortest.{BestOf}
-use Rattle.answers.specs.declared.Best.{Best}
+use Rattle.answers.specs.Listed.{listOf}
+use Rattle.answers.specs.Shortest.{bestOf}
 use Rattle.answers.specs.declared.BestAnswer.{BestAnswer}
 use Rattle.answers.specs.declared.BestAnswer.the-variants as Shortest
 use Rattle.answers.specs.declared.CountAnswer.{CountAnswer}
@@ -60,12 +59,9 @@ pub record WriteLeaves (s : List ℕ) (v : ℕ) (before after out : List ℕ) : 
   pub area : after ≡ writeOf s v before .area
 
 pub record ListLeaves (s : List ℕ) (cap : ℕ) (before after out : List ℕ) : Type 0 where
-  pub answer : ListAnswer
-  pub listing : ListOf s cap before answer after
-  pub cells : out ≡ listCells answer
+  pub cells : out ≡ listCells (listOf s cap before .answer)
+  pub area : after ≡ listOf s cap before .area
 
 pub record BestLeaves (s : List ℕ) (cap : ℕ) (before after out : List ℕ) : Type 0 where
-  pub best : Best
-  pub finding : BestOf s cap best
-  pub cells : out ≡ bestCells (best .answer)
-  pub starts : after ≡ startsKept (best .answer) (best .timetable .starts) before
+  pub cells : out ≡ bestCells (bestOf s cap .answer)
+  pub starts : after ≡ startsKept (bestOf s cap .answer) (bestOf s cap .timetable .starts) before

@@ -9,6 +9,7 @@ use borrow.Author.Tests.{lt-ltb, ltb-true}
 use lib.Dec.{leb, ltb}
 use lib.ListN.{length, take, drop}
 use lib.Seq.{take-at}
+use Rattle.plan.specs.Outcome.{Outcome}
 use Rattle.plan.specs.Plan.{Plan}
 use Rattle.plan.specs.declared.Refusal.{Refusal}
 use Rattle.term.specs.Term.{Term}
@@ -24,7 +25,8 @@ use Rattle.variant.proofs.RoundTrip.{same-project, written-again, reads-dissolv
 use Rattle.variant.proofs.RoundTrip.{variant-count, variant-only}
 use Rattle.judge.specs.Judge.{Verdict, accepts, refuses, judge}
 use Rattle.judge.proofs.Accepts.{accepted-valid, valid-accepted}
-use Rattle.write.specs.Answer.{Outcome, placedBy, writeVariant, writeBy, writeOf}
+use Rattle.write.specs.declared.WriteAnswer.{WriteAnswer}
+use Rattle.write.specs.Answer.{placedBy, writeVariant, writeBy, writeOf}
 use Rattle.write.specs.RoundTrip.{RoundTrip}
 use Rattle.write.specs.Steps.{placedIn}
 use Rattle.write.specs.declared.WriteAnswer.the-variants.{Written, Refused}
@@ -103,20 +105,20 @@ same-size : {m n : ℕ} → Written m ≡ Written n → m ≡ n
 same-size e = cc
 
 module _ (s : List ℕ) (v : ℕ) (area : List ℕ) (n : ℕ) (after : List ℕ) where
-  abbrev Left : Outcome → Type 0
+  abbrev Left : Outcome WriteAnswer → Type 0
   Left o = o ≡ record { answer = Written n; area = after }
 
   bytes-placed : (fits : Bool) (bytes : List ℕ) → Left (placedBy fits bytes area) → bytes ≡ take n after
   bytes-placed true bytes h =
-      let size = same-size (ap (λ (o : Outcome). o .answer) h) in
-      sym (take-at bytes (drop (length bytes) area) n size) ∙ ap (λ (o : Outcome). take n (o .area)) h
-  bytes-placed false bytes h = refused-not-written (ap (λ (o : Outcome). o .answer) h)
+      let size = same-size (ap (λ (o : Outcome WriteAnswer). o .answer) h) in
+      sym (take-at bytes (drop (length bytes) area) n size) ∙ ap (λ (o : Outcome WriteAnswer). take n (o .area)) h
+  bytes-placed false bytes h = refused-not-written (ap (λ (o : Outcome WriteAnswer). o .answer) h)
 
   variant-written :
       (b : Bool) (p : Plan) (t : Term) → ltb v (variantCount t) ≡ b → judge s ≡ accepts p t → Left
       (writeVariant b p t v area)
       → RoundTrip s v (take n after)
-  variant-written false p t eb e h = refused-not-written (ap (λ (o : Outcome). o .answer) h)
+  variant-written false p t eb e h = refused-not-written (ap (λ (o : Outcome WriteAnswer). o .answer) h)
   variant-written true p t eb e h =
       let l = ltb-true v (variantCount t) eb in
       subst (RoundTrip s v) (bytes-placed (leb (length (bytesOf p t v)) (length area)) (bytesOf p t v) h) (record {
@@ -137,7 +139,7 @@ module _ (s : List ℕ) (v : ℕ) (area : List ℕ) (n : ℕ) (after : List ℕ)
 
   verdict-written : (o : Verdict) → judge s ≡ o → Left (writeBy o v area) → RoundTrip s v (take n after)
   verdict-written (accepts p t) e h = variant-written (ltb v (variantCount t)) p t refl e h
-  verdict-written (refuses r) e h = refused-not-written (ap (λ (o : Outcome). o .answer) h)
+  verdict-written (refuses r) e h = refused-not-written (ap (λ (o : Outcome WriteAnswer). o .answer) h)
 
   pub round-trip : writeOf s v area ≡ record { answer = Written n; area = after } → RoundTrip s v (take n after)
   unfolding writeOf

@@ -7,6 +7,7 @@ use mathlib.Core.Path.{_≡_, ap}
 use borrow.Author.Tests.{lt-ltb, le-ltb, le-leb, lt-leb}
 use lib.Dec.{leb}
 use lib.ListN.{length}
+use Rattle.plan.specs.Outcome.{Outcome}
 use Rattle.plan.specs.Plan.{planOf}
 use Rattle.plan.specs.declared.Refusal.{Refusal}
 use Rattle.plan.specs.declared.Refusal.the-variants.{NoSuchVariant, AreaTooShort}
@@ -21,12 +22,12 @@ use Rattle.judge.specs.Judge.{judge, accepts, refuses}
 use Rattle.judge.specs.Campaign.{HoldsPlan, HoldsVariant}
 use Rattle.judge.specs.declared.Campaign.{Campaign}
 use Rattle.writer.specs.Wrote.{HoldsText}
-use Rattle.write.specs.Answer.{Outcome, writeOf}
+use Rattle.write.specs.Answer.{writeOf}
 use Rattle.write.specs.Steps.{HoldsVariantPlan, placedIn}
 use Rattle.write.specs.declared.WriteAnswer.{WriteAnswer}
 use Rattle.write.specs.declared.WriteAnswer.the-variants.{Written, Refused}
 
-abbrev outcome : WriteAnswer → List ℕ → Outcome
+abbrev outcome : WriteAnswer → List ℕ → Outcome WriteAnswer
 outcome answer area = record { answer = answer; area = area }
 
 -- The tables with the nodes of variant v.
@@ -79,7 +80,7 @@ module _ (s : List ℕ) (v : ℕ) where
 
     -- The tables that `variant_of` makes of it.
     pub writes-variant :
-        (r : Tables) → v < c .variants → HoldsVariantPlan (c .tables) t v r → (area : List ℕ) (o : Outcome)
+        (r : Tables) → v < c .variants → HoldsVariantPlan (c .tables) t v r → (area : List ℕ) (o : Outcome WriteAnswer)
         → o ≡ placedIn area (text (planOf r)) → o ≡ writeOf s v area
     unfolding writeOf written
     writes-variant r l made area o e = rw (is, lt-ltb v (variantCount t) (omega (arith, h .counted)), ← made .plan) e

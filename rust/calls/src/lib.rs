@@ -44,9 +44,10 @@ pub trait Planner {
     /// The number of pairs of a variant and an active schedule of it.
     fn count(&self, file: &[u8], cap: u32) -> Answer<u64>;
 
-    /// Writes the rows at the front of the area, a variant and then a start for each activity; answers their number.
+    /// Writes the rows at the front of the area, a variant and then a start for each activity; answers their number. They
+    /// stand by variant, then by the start of activity 0, then of activity 1 and so on through the present ones.
     fn list(&self, file: &[u8], cap: u32, area: &mut [u16]) -> Answer<u64>;
 
-    /// Writes a shortest schedule into `starts`.
+    /// Writes the schedule of the first shortest row into `starts`.
     fn best(&self, file: &[u8], cap: u32, starts: &mut Timetable) -> Answer<Best>;
 }

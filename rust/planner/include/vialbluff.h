@@ -46,11 +46,13 @@ void vialbluff_check(const uint8_t *file, size_t file_len, uint32_t variant,
 /* out[1] the number of pairs of a variant and an active schedule of it. */
 void vialbluff_count(const uint8_t *file, size_t file_len, uint32_t cap, uint64_t out[4]);
 
-/* Writes a row for each pair at the front of the area: the variant and then a start for each activity; out[1] the rows. */
+/* Writes a row for each pair at the front of the area: the variant and then a start for each activity; out[1] the rows.
+ * They stand by variant, then by the start of activity 0, then of activity 1 and so on through the present ones. */
 void vialbluff_list(const uint8_t *file, size_t file_len, uint32_t cap,
                     uint16_t *area, size_t area_len, uint64_t out[4]);
 
-/* Writes a shortest schedule into `starts`; out[1] its variant, out[2] its makespan, out[3] the number of pairs. */
+/* Writes the schedule of the first shortest of LIST's rows into `starts`; out[1] its variant, out[2] its makespan, out[3]
+ * the number of pairs. */
 void vialbluff_best(const uint8_t *file, size_t file_len, uint32_t cap,
                     uint16_t starts[VIALBLUFF_PLACES], uint64_t out[4]);
 

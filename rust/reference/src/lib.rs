@@ -13,7 +13,7 @@ pub mod random;
 pub mod rows;
 pub mod term;
 
-use calls::{Answer, Best, Planner, Refusal, Size, Timetable, MARK};
+use calls::{Answer, Best, Planner, Refusal, Size, Timetable, MARK, PLACES};
 use file::{Activity, Plan};
 use project::Project;
 use rows::{rows, Rows};
@@ -53,6 +53,14 @@ pub fn makespan_of(plan: &Plan, row: &[u16]) -> u64 {
     let start = |i: usize| u64::from(row[i + 1]);
     let latest = present().map(|i| start(i) + plan.activities[i].duration).max().unwrap();
     latest - present().map(start).min().unwrap()
+}
+
+/// The first shortest of some rows, as BEST answers it.
+pub fn first_shortest(plan: &Plan, rows: &[Vec<u16>]) -> (Best, Timetable) {
+    let row = rows.iter().min_by_key(|row| makespan_of(plan, row)).unwrap();
+    let mut starts = [MARK; PLACES];
+    starts[..row.len() - 1].copy_from_slice(&row[1..]);
+    (Best { variant: u64::from(row[0]), makespan: makespan_of(plan, row), count: rows.len() as u64 }, starts)
 }
 
 /// The reference as a planner. It may take long where the pairs are many.
@@ -113,9 +121,8 @@ impl Planner for Reference {
 
     fn best(&self, file: &[u8], cap: u32, starts: &mut Timetable) -> Answer<Best> {
         let (plan, rows) = self.rows(file, cap)?;
-        let row = rows.iter().min_by_key(|row| makespan_of(&plan, row)).unwrap();
-        starts.fill(MARK);
-        starts[..row.len() - 1].copy_from_slice(&row[1..]);
-        Ok(Best { variant: u64::from(row[0]), makespan: makespan_of(&plan, row), count: rows.len() as u64 })
+        let (best, timetable) = first_shortest(&plan, &rows);
+        *starts = timetable;
+        Ok(best)
     }
 }

@@ -1,4 +1,5 @@
-//! The pairs of a variant and an active schedule of it, as rows: the variant and then a start for each activity.
+//! The pairs of a variant and an active schedule of it, as rows: the variant and then a start for each activity. They
+//! stand by variant, then by the start of activity 0, then of activity 1 and so on through the present ones.
 
 use crate::file::Plan;
 use crate::insertion::{active_schedules, some_active_schedule, Found};
@@ -33,7 +34,10 @@ pub fn rows(plan: &Plan, cap: u64, steps: u64) -> Rows {
     for variant in 0..variants {
         let project = Project::new(&plan.activities, &plan.term.variant(variant));
         match active_schedules(&project, cap - rows.len() as u64, &mut steps) {
-            Found::All(found) => rows.extend(found.iter().map(|starts| row_of(plan, variant, &project, starts))),
+            Found::All(mut found) => {
+                found.sort();
+                rows.extend(found.iter().map(|starts| row_of(plan, variant, &project, starts)));
+            }
             Found::More => return Rows::OverCap,
             Found::OutOfSteps if exceeds(plan, cap) => return Rows::OverCap,
             Found::OutOfSteps => return Rows::Unsettled,

@@ -1,7 +1,7 @@
 -- `best` meets its contract: the judgement of the file, and for a plan its shortest session.
-use mathlib.Core.Path.{refl}
 use borrow.Author.Needs.{needs}
 use denote.Ref.{now}
+use Rattle.answers.specs.declared.BestAnswer.the-variants.{Refused}
 use Rattle.calls.proofs.Judged.{best-of}
 use Rattle.calls.proofs.best.Statement.{statement}
 use Rattle.calls.proofs.best.Tie as tie
@@ -36,7 +36,7 @@ returns-2 c =
     let b = c .before .before .before .before .before in
     best-of (now (b .before .before .args .file)) _
     (b .judge .ensures .refused _ (c .before .before .verdict .given .1)) (b .before .before .args .cap) _
-    (refl, c .empty .ensures)
+    (λ i. record { answer = Refused (c .before .before .verdict .given .0 .0); timetable = record { starts = c .empty .ensures i } })
 
 pub best-spec : {M : Type 1} → statement M
 best-spec =

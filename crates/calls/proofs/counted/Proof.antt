@@ -13,13 +13,13 @@ returns : tie.Need-returns
 returns c =
     let a = c .before .before .before .args in
     let r = c .before .before .tallied in
-    λ t holds. counts-refused (a .campaign) t holds (a .cap) (0 ∷ []) (r .result) (r .ensures t holds) (omega arith)
+    λ t holds. counts-refused (a .campaign) t holds (a .cap) 0 (0 ∷ []) (r .result) (r .ensures t holds) (omega arith)
 
 returns-2 : tie.Need-returns-2
 returns-2 c =
     let a = c .before .before .before .args in
     let r = c .before .before .tallied in
-    λ t holds. counts-allowed (a .campaign) t holds (a .cap) (0 ∷ []) (r .result) (r .ensures t holds) (omega arith)
+    λ t holds. counts-allowed (a .campaign) t holds (a .cap) 0 (0 ∷ []) (r .result) (r .ensures t holds) (omega arith)
 
 pub counted-spec : {M : Type 1} → statement M
 counted-spec = tie.close (tie.spec tallied-requires returns returns-2)

@@ -31,17 +31,14 @@ returns c =
     let g = b .before .before .before .args in
     let s = now (g .file) in
     let (t, is, h) = b .judge .ensures .accepted (r .before .before .enum-told .given .1) in
-    list-of s _ is (g .cap) (now (g .area)) (r .listed .result) (r .listed .last .1 .1 .0) (r .listed .ensures t h)
+    list-of s _ is (g .cap) (now (g .area)) _ (r .listed .ensures t h)
 
 returns-2 : tie.Need-returns-2
 returns-2 c =
     let b = c .before .before .before .before in
     let a = b .before .before .before .args in
     list-of (now (a .file)) _ (b .judge .ensures .refused _ (c .before .verdict .given .1)) (a .cap) (now (a .area)) _
-    (now (a .area)) (
-      refl,
-      refl,
-    )
+    refl
 
 pub list-spec : {M : Type 1} → statement M
 list-spec =

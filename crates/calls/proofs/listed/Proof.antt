@@ -1,11 +1,14 @@
--- `listed` meets its contract: the first sweep says whether all rows fit, the second writes them.
+-- `listed` meets its contract: the first sweep says whether all rows fit, the second writes them, and they are
+-- sorted.
 use Prim.Native.Nat.{_+_}
 use native.Mathlib.Omega.{arith}
-use mathlib.Core.Path.{ap}
+use mathlib.Core.Path.{ap, _∙_}
 use mathlib.Core.List.{[], _∷_}
 use borrow.Author.Needs.{needs}
 use denote.Ref.{now}
-use Rattle.search.specs.Seen.{Kept}
+use Rattle.tally.specs.Seen.{Kept, kept}
+use Rattle.tally.specs.declared.Tally.{Tally}
+use Rattle.sweep.specs.Swept.{swept}
 use Rattle.calls.proofs.Answers.{lists-refused, lists-short, lists-rows}
 use Rattle.calls.proofs.Judged.{cells-fit}
 use Rattle.calls.proofs.listed.Statement.{statement}
@@ -19,7 +22,7 @@ returns c =
     let a = c .before .before .before .args in
     let r = c .before .tallied in
     λ t holds.
-    lists-refused (a .campaign) t holds (a .cap) (0 ∷ []) (r .result) (r .ensures t holds) (now (a .area))
+    lists-refused (a .campaign) t holds (a .cap) 0 (0 ∷ []) (r .result) (r .ensures t holds) (now (a .area))
     (omega arith)
 
 add-needed : tie.Need-add-needed
@@ -39,27 +42,42 @@ returns-2 c =
     let a = c .before .before .before .before .before .args in
     let r = c .before .before .before .tallied in
     λ t holds.
-    lists-short (a .campaign) t holds (a .cap) (0 ∷ []) (r .result) (r .ensures t holds) (now (a .area))
+    lists-short (a .campaign) t holds (a .cap) 0 (0 ∷ []) (r .result) (r .ensures t holds) (now (a .area))
     (omega arith)
     (omega arith)
 
+none-requires : tie.Need-none-requires
+none-requires c κs = search needs
+
 sweep-requires : tie.Need-sweep-requires
 sweep-requires c κs = search needs
+
+add-sort-rows : tie.Need-add-sort-rows
+add-sort-rows c = search needs
+
+sort-rows-requires : tie.Need-sort-rows-requires
+sort-rows-requires c κs = search needs
 
 same-length : tie.Need-same-length
 same-length c = search needs
 
 returns-3 : tie.Need-returns-3
 returns-3 c =
-    let a = c .before .before .before .before .before .before .before .before .before .args in
-    let r = c .before .before .before .before .before .before .before .tallied in
-    let s = c .before .before .sweep in
+    let sort = c .before .before in
+    let sweep = sort .before .before .before .before .before in
+    let none = sweep .before .before in
+    let start = none .before .before .before .before in
+    let a = start .before .before .args in
+    let r = start .tallied in
     λ t holds.
-    lists-rows (a .campaign) t holds (a .cap) (0 ∷ []) (r .result) (r .ensures t holds) (now (a .area))
+    lists-rows (a .campaign) t holds (a .cap) 0 (0 ∷ []) (r .result) (r .ensures t holds) (now (a .area))
     (omega arith)
     (omega arith)
-    (s .last .1 .1 .0)
-    (ap (λ (k : Kept). k .area) (s .ensures t holds))
+    (sweep .sweep .last .1 .1 .1 .0)
+    (sort .sort-rows .last .0)
+    (ap (λ (k : Kept). k .area) (sweep .sweep .ensures t holds)
+    ∙ ap (λ (x : Tally). swept (a .campaign) t (a .cap) (kept x (now (a .area))) .area) (none .none .ensures))
+    (sort .sort-rows .ensures)
 
 pub listed-spec : {M : Type 1} → statement M
 listed-spec =
@@ -70,6 +88,9 @@ listed-spec =
     add-needed
     mul-needed
     returns-2
+    none-requires
     sweep-requires
+    add-sort-rows
+    sort-rows-requires
     same-length
     returns-3)

@@ -36,7 +36,7 @@ put-rows-requires c κs =
     let before = c .before in
     let call = before .before .before .before .before .before .before .before .before .before in
     let rows = before .before .before .before .before .before .rows in
-    omega (arith, rows-fit _ _ _ _ (told before) _ _ _ _ (call .list .ensures) _ (rows .given .1))
+    omega (arith, rows-fit _ _ _ _ (told before) _ _ _ (call .list .ensures) _ (rows .given .1))
 
 enum-known-r : tie.Need-enum-known-r
 enum-known-r c = search needs

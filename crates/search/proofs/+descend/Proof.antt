@@ -10,8 +10,8 @@ use borrow.Fn.Kinds.{In}
 use borrow.Fn.PlainCycle.{Measures, is, falls, and}
 use Rattle.sets.proofs.Laws.{size-without}
 use Rattle.sets.specs.Sets.{most, has, size}
-use Rattle.search.specs.Seen.{settingIn, keptOf}
-use Rattle.search.specs.Tables.{problemIn}
+use Rattle.tally.specs.Seen.{settingIn, keptOf}
+use Rattle.tally.specs.Tables.{problemIn}
 use Rattle.scan.specs.Model.{Problem, State, never, finish, key, isChoice, freeze, leaves}
 use Rattle.sets.proofs.Members.{lowest-below, lowest-has, after-less, after-none, two-left, ended}
 use Rattle.search.specs.Standing.{Position, position, AtState, Standing}

@@ -4,11 +4,11 @@ use mathlib.Core.Path.{ap, _∙_}
 use Prim.Native.Nat.{ℕ}
 use native.Mathlib.Omega.{arith}
 use lib.ListN.{replicate}
-use Rattle.search.specs.Seen.{kept}
+use Rattle.tally.specs.Seen.{kept}
 use Rattle.candidates.specs.Work.{workCells}
 use Rattle.search.specs.Standing.{position, Standing}
 use Rattle.search.proofs.Entry.{root-standing, all-found}
-use Rattle.search.specs.declared.Tally.{Tally}
+use Rattle.tally.specs.declared.Tally.{Tally}
 use borrow.Author.Needs.{needs}
 use Rattle.search.proofs.search.Statement.{statement}
 use Rattle.search.proofs.search.Tie as tie

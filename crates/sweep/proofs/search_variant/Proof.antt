@@ -2,7 +2,7 @@
 use borrow.Author.Needs.{needs}
 use mathlib.Core.Path.{_∙_}
 use Rattle.plan.specs.Plan.{planOf}
-use Rattle.search.specs.Seen.{kept}
+use Rattle.tally.specs.Seen.{kept}
 use Rattle.sweep.proofs.Turns.{variant-swept}
 use Rattle.sweep.proofs.search_variant.Statement.{statement}
 use Rattle.sweep.proofs.search_variant.Tie as tie

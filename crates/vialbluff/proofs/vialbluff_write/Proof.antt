@@ -1,7 +1,8 @@
 -- `vialbluff::vialbluff_write` meets its contract, from what WRITE answers and leaves.
 use mathlib.Core.Path.{ap, _∙_}
 use borrow.Author.Needs.{needs}
-use Rattle.write.specs.Answer.{Outcome}
+use Rattle.plan.specs.Outcome.{Outcome}
+use Rattle.write.specs.declared.WriteAnswer.{WriteAnswer}
 use Rattle.vialbluff.specs.Cells.{writeCells}
 use Rattle.vialbluff.proofs.vialbluff_write.Statement.{statement}
 use Rattle.vialbluff.proofs.vialbluff_write.Tie as tie
@@ -19,8 +20,8 @@ returns : tie.Need-returns
 returns c =
     let e = c .before .before .before .write .ensures in
     record {
-      cells = c .of-write .ensures ∙ ap (λ (x : Outcome). writeCells (x .answer)) e;
-      area = ap (λ (x : Outcome). x .area) e;
+      cells = c .of-write .ensures ∙ ap (λ (x : Outcome WriteAnswer). writeCells (x .answer)) e;
+      area = ap (λ (x : Outcome WriteAnswer). x .area) e;
     }
 
 pub vialbluff-write-spec : {M : Type 1} → statement M

@@ -1,4 +1,4 @@
-/* A plan of 24 activities by each call, on a stack of 64 KiB. */
+/* Plans of 24 activities by each call, on a stack of 64 KiB. */
 #include "vialbluff.h"
 
 #include <assert.h>
@@ -6,55 +6,97 @@
 #include <stdio.h>
 #include <string.h>
 
-enum { JOBS = 6, STEPS = 4, STACK = 64 * 1024, CELLS = 1000, BYTES = 959 };
+enum { JOBS = 6, STEPS = 4, ACTS = JOBS * STEPS, WIDTH = ACTS + 1, DEVICES = 16, STACK = 64 * 1024, BYTES = 959 };
+enum { LONGER = 6, MERGED = 134596, CAP = 150000, CELLS = MERGED * WIDTH };
 
-static char plan[BYTES + 1];
+static char shop[BYTES + 1];
+static char merge[BYTES + 1];
+static char nest[BYTES + 1];
 static uint16_t area[CELLS];
 static uint8_t text[BYTES];
 
-static void line(const char *form, int a, int b) {
+static void line(char *plan, const char *form, int a, int b) {
   const size_t at = strlen(plan);
-  snprintf(plan + at, sizeof plan - at, form, a, b);
+  snprintf(plan + at, BYTES + 1 - at, form, a, b);
 }
 
-/* Six jobs side by side, each on the four devices in turn. */
-static void write_plan(void) {
-  line("plan=1\nres=%d\nacts=%d\n", STEPS, JOBS * STEPS);
-  for (int i = 0; i < JOBS * STEPS; i++) line("act=%d,%d\n", i % STEPS, 1 + i % 7);
-  line("nodes=%d\nnode=p,%d\n", 1 + JOBS * (1 + STEPS), JOBS);
-  for (int job = 0; job < JOBS; job++) {
-    line("node=s,%d\n", STEPS, 0);
-    for (int step = 0; step < STEPS; step++) line("node=a,%d\n", job * STEPS + step, 0);
-  }
+static void write_sequence(char *plan, int from, int to) {
+  line(plan, "node=s,%d\n", to - from, 0);
+  for (int i = from; i < to; i++) line(plan, "node=a,%d\n", i, 0);
 }
 
-static void *call_each(void *none) {
+/* Six jobs side by side, each on the four devices in turn: more pairs than the cap. */
+static void write_shop(void) {
+  line(shop, "plan=1\nres=%d\nacts=%d\n", STEPS, ACTS);
+  for (int i = 0; i < ACTS; i++) line(shop, "act=%d,%d\n", i % STEPS, 1 + i % 7);
+  line(shop, "nodes=%d\nnode=p,%d\n", 1 + JOBS * (1 + STEPS), JOBS);
+  for (int job = 0; job < JOBS; job++) write_sequence(shop, job * STEPS, (job + 1) * STEPS);
+}
+
+/* Two sequences side by side on one device, one of single ticks and one of doubling durations. A start in the first has
+ * few values, each twice as far off as the one before: the sort of the rows parts them one by one, and so goes deep. */
+static void write_merge(void) {
+  const int singles = ACTS - LONGER;
+  line(merge, "plan=1\nres=1\nacts=%d\n", ACTS, 0);
+  for (int i = 0; i < ACTS; i++) line(merge, "act=0,%d\n", i < singles ? 1 : 1 << (i - singles), 0);
+  line(merge, "nodes=%d\nnode=p,2\n", 3 + ACTS, 0);
+  write_sequence(merge, 0, singles);
+  write_sequence(merge, singles, ACTS);
+}
+
+/* Each group in the one before: an activity and the rest, by turns in sequence and side by side. */
+static void write_nest(void) {
+  line(nest, "plan=1\nres=%d\nacts=%d\n", DEVICES, ACTS);
+  for (int i = 0; i < ACTS; i++) line(nest, "act=%d,1\n", i % DEVICES, 0);
+  line(nest, "nodes=%d\n", 2 * ACTS - 1, 0);
+  for (int i = 0; i < ACTS - 1; i++) line(nest, i % 2 == 0 ? "node=s,2\nnode=a,%d\n" : "node=p,2\nnode=a,%d\n", i, 0);
+  line(nest, "node=a,%d\n", ACTS - 1, 0);
+}
+
+static int stands_before(const uint16_t *a, const uint16_t *b) {
+  int i = 0;
+  while (i < WIDTH && a[i] == b[i]) i++;
+  return i < WIDTH && a[i] < b[i];
+}
+
+/* The plan has so many pairs, or more than the cap if they are 0. */
+static void call_each(const char *plan, uint64_t pairs) {
   const uint8_t *file = (const uint8_t *)plan;
   const size_t length = strlen(plan);
+  const uint64_t refused = pairs == 0 ? 7 : 0;
   uint16_t starts[VIALBLUFF_PLACES] = {0};
   uint64_t out[4];
   vialbluff_read(file, length, out);
-  assert(out[0] == 0 && out[1] == JOBS * STEPS);
+  assert(out[0] == 0 && out[1] == ACTS);
   vialbluff_write(file, length, 0, text, sizeof text, out);
   assert(out[0] == 0 && out[1] == length && memcmp(text, plan, length) == 0);
   vialbluff_check(file, length, 0, starts, out);
   assert(out[0] == 0 && out[1] == 0);
-  vialbluff_count(file, length, 100000, out);
-  assert(out[0] == 7);
-  vialbluff_list(file, length, 100000, area, CELLS, out);
-  assert(out[0] == 7);
-  vialbluff_best(file, length, 100000, starts, out);
-  assert(out[0] == 7);
+  vialbluff_count(file, length, CAP, out);
+  assert(out[0] == refused && out[1] == pairs);
+  vialbluff_list(file, length, CAP, area, CELLS, out);
+  assert(out[0] == refused && out[1] == pairs);
+  for (uint64_t i = 1; i < pairs; i++) assert(stands_before(area + (i - 1) * WIDTH, area + i * WIDTH));
+  vialbluff_best(file, length, CAP, starts, out);
+  assert(out[0] == refused && out[3] == pairs);
+}
+
+static void *call_all(void *none) {
+  call_each(shop, 0);
+  call_each(merge, MERGED);
+  call_each(nest, 1);
   return none;
 }
 
 int main(void) {
   pthread_attr_t attributes;
   pthread_t thread;
-  write_plan();
+  write_shop();
+  write_merge();
+  write_nest();
   assert(pthread_attr_init(&attributes) == 0);
   assert(pthread_attr_setstacksize(&attributes, STACK) == 0);
-  assert(pthread_create(&thread, &attributes, call_each, NULL) == 0);
+  assert(pthread_create(&thread, &attributes, call_all, NULL) == 0);
   assert(pthread_join(thread, NULL) == 0);
   return 0;
 }

@@ -22,15 +22,20 @@ fn best(text: &str, cap: u32) -> Answer<(Best, [u16; 24])> {
     Ok((best, starts))
 }
 
-/// The makespans of the rows that LIST gives, rising.
-fn makespans(text: &str) -> Vec<u64> {
+/// The rows that LIST gives.
+fn listed(text: &str) -> Vec<Vec<u16>> {
     let (planner, file) = (crate::planner(), file(text));
-    let plan = parse(&file).unwrap();
     let count = planner.count(&file, u32::MAX).unwrap();
-    let width = plan.activities.len() + 1;
+    let width = planner.read(&file).unwrap().activities as usize + 1;
     let mut area = vec![0; count as usize * width];
     assert_eq!(planner.list(&file, u32::MAX, &mut area), Ok(count));
-    let mut makespans: Vec<u64> = area.chunks(width).map(|row| makespan_of(&plan, row)).collect();
+    area.chunks(width).map(<[u16]>::to_vec).collect()
+}
+
+/// Their makespans, rising.
+fn makespans(text: &str) -> Vec<u64> {
+    let plan = parse(&file(text)).unwrap();
+    let mut makespans: Vec<u64> = listed(text).iter().map(|row| makespan_of(&plan, row)).collect();
     makespans.sort();
     makespans
 }
@@ -43,6 +48,12 @@ fn dot_test() {
     assert_eq!(found, Best { variant: 0, makespan: 10, count: 3 });
     assert_eq!(starts[..5], [0, MARK, MARK, 4, 4]);
     assert_eq!(starts[5..], [MARK; 19]);
+}
+
+#[test]
+fn dot_test_rows() {
+    let rows = [[0, 0, MARK, MARK, 4, 4], [1, MARK, 0, 2, 5, 5], [1, MARK, 3, 0, 5, 5]];
+    assert_eq!(listed(DOT_TEST), rows);
 }
 
 #[test]
@@ -92,7 +103,8 @@ fn groups_of_one() {
 fn activity_0_twice() {
     let x = "plan=1/res=1/acts=1/act=0,1/nodes=3/node=x,2/node=a,0/node=a,0";
     assert_eq!(variants(x), Ok(2));
-    assert_eq!(crate::planner().count(&file(x), 2), Ok(2));
+    assert_eq!(listed(x), [[0, 0], [1, 0]]);
+    assert_eq!(best(x, 2).unwrap().0, Best { variant: 0, makespan: 1, count: 2 });
     assert_eq!(variants(&x.replace('x', "p")), Err(refusal(5, 0)));
 }
 
@@ -111,7 +123,9 @@ fn twelve_choices_of_two() {
 fn two_contested_resources() {
     let text =
         "plan=1/res=2/acts=4/act=0,1/act=0,1/act=1,1/act=1,1/nodes=5/node=p,4/node=a,0/node=a,1/node=a,2/node=a,3";
+    assert_eq!(listed(text), [[0, 0, 1, 0, 1], [0, 0, 1, 1, 0], [0, 1, 0, 0, 1], [0, 1, 0, 1, 0]]);
     assert_eq!(makespans(text), [2; 4]);
+    assert_eq!(best(text, 4).unwrap().1[..4], [0, 1, 0, 1]);
 }
 
 #[test]

@@ -6,7 +6,7 @@ use reference::insertion::some_active_schedule;
 use reference::project::Project;
 use reference::random::Random;
 use reference::rows::{row_of, rows, Rows};
-use reference::{is_session, makespan_of, refusal};
+use reference::{first_shortest, is_session, refusal};
 use std::fmt::Debug;
 
 /// What was seen of a plan.
@@ -221,8 +221,7 @@ fn compare_pairs(planner: &impl Planner, file: &[u8], plan: &Plan, random: &mut 
             refuses_cap(planner, file, refusal(7, 0), random.below(most) as u32, random)?;
             Ok(Pairs::OverCap)
         }
-        Rows::All(mut rows) => {
-            rows.sort();
+        Rows::All(rows) => {
             let count = rows.len() as u64;
             refuses_cap(planner, file, refusal(7, 0), count as u32 - 1, random)?;
             let larger = random.pick(&[count as u32 + 1, 1_000_000, u32::MAX]);
@@ -237,8 +236,8 @@ fn compare_pairs(planner: &impl Planner, file: &[u8], plan: &Plan, random: &mut 
 }
 
 fn compare_list(planner: &impl Planner, file: &[u8], cap: u32, rows: &[Vec<u16>], random: &mut Random) -> Difference {
-    let width = rows[0].len();
-    let needed = rows.len() * width;
+    let cells = rows.concat();
+    let needed = cells.len();
     for length in lengths(random, needed) {
         let mut area = Area::new(random, length, |n| n as u16);
         let got = planner.list(file, cap, area.lent());
@@ -247,9 +246,7 @@ fn compare_list(planner: &impl Planner, file: &[u8], cap: u32, rows: &[Vec<u16>]
             area.untouched("list", 0)?;
         } else {
             same("list", Ok(rows.len() as u64), got)?;
-            let mut listed: Vec<Vec<u16>> = area.lent()[..needed].chunks(width).map(<[u16]>::to_vec).collect();
-            listed.sort();
-            same("list: rows", rows, &listed[..])?;
+            same("list: cells", &cells[..], &area.lent()[..needed])?;
             area.untouched("list", needed)?;
         }
     }
@@ -267,15 +264,7 @@ fn compare_best(
     let mut starts = Area::new(random, PLACES, |n| n as u16);
     let found = best(planner, file, cap, &mut starts);
     starts.untouched("best", PLACES)?;
-    let Ok(found) = found else {
-        return Err(format!("best: {found:?}"));
-    };
-    let shortest = rows.iter().map(|row| makespan_of(plan, row)).min().unwrap();
-    same("best: makespan", shortest, found.makespan)?;
-    same("best: count", rows.len() as u64, found.count)?;
-    let (present, past) = starts.lent().split_at(plan.activities.len());
-    let row = [&[found.variant as u16], present].concat();
-    same("best: its makespan", shortest, makespan_of(plan, &row))?;
-    same("best: marks", true, past.iter().all(|&start| start == MARK))?;
-    same("best: one of the pairs", true, rows.binary_search(&row).is_ok())
+    let (expected, timetable) = first_shortest(plan, rows);
+    same("best", Ok(expected), found)?;
+    same("best: starts", &timetable[..], starts.lent())
 }

@@ -31,12 +31,17 @@ enum Fault {
     ListWritesNothing,
     ListRepeatsARow,
     ListTouchesPastTheEnd,
+    ListExchangesTwoRows,
+    ListForgetsVariants,
+    ListFromLastActivity,
     FirstVariantForAll,
     NothingWaits,
     SlidesOnly,
     BestOfFirstVariant,
     BestByLongestChain,
     BestLeavesMarks,
+    BestIsLastShortest,
+    BestForgetsVariants,
 }
 
 struct Faulty(Fault);
@@ -101,6 +106,7 @@ fn earliest_rows(plan: &Plan) -> Vec<Vec<u16>> {
         let project = Project::new(&plan.activities, &plan.term.variant(variant));
         each_earliest(&project, &mut |starts| rows.push(row_of(plan, variant, &project, &starts)));
     }
+    rows.sort();
     rows
 }
 
@@ -198,7 +204,17 @@ impl Planner for Faulty {
     }
 
     fn list(&self, file: &[u8], cap: u32, area: &mut [u16]) -> Answer<u64> {
-        let (_, rows) = self.rows(file, cap)?;
+        let (_, mut rows) = self.rows(file, cap)?;
+        match self.0 {
+            Fault::ListExchangesTwoRows if rows.len() > 1 => rows.swap(0, 1),
+            Fault::ListForgetsVariants => rows.sort_by_key(|row| row[1..].to_vec()),
+            Fault::ListFromLastActivity => rows.sort_by_key(|row| {
+                let mut key = row.clone();
+                key[1..].reverse();
+                key
+            }),
+            _ => {}
+        }
         let cells = rows.concat();
         if area.len() < cells.len() {
             return Err(refusal(8, cells.len() as u64));
@@ -213,7 +229,12 @@ impl Planner for Faulty {
     }
 
     fn best(&self, file: &[u8], cap: u32, starts: &mut Timetable) -> Answer<Best> {
-        let (plan, rows) = self.rows(file, cap)?;
+        let (plan, mut rows) = self.rows(file, cap)?;
+        match self.0 {
+            Fault::BestIsLastShortest => rows.reverse(),
+            Fault::BestForgetsVariants => rows.sort_by_key(|row| row[1..].to_vec()),
+            _ => {}
+        }
         let chain = |row: &[u16]| {
             let project = Project::new(&plan.activities, &plan.term.variant(u64::from(row[0])));
             project.longest_chain()
@@ -264,12 +285,17 @@ fn each_fault_is_found_out() {
         Fault::ListWritesNothing,
         Fault::ListRepeatsARow,
         Fault::ListTouchesPastTheEnd,
+        Fault::ListExchangesTwoRows,
+        Fault::ListForgetsVariants,
+        Fault::ListFromLastActivity,
         Fault::FirstVariantForAll,
         Fault::NothingWaits,
         Fault::SlidesOnly,
         Fault::BestOfFirstVariant,
         Fault::BestByLongestChain,
         Fault::BestLeavesMarks,
+        Fault::BestIsLastShortest,
+        Fault::BestForgetsVariants,
     ] {
         assert!(found_out(fault).is_some(), "{fault:?} was not found out");
     }

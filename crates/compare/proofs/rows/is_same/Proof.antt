@@ -5,10 +5,10 @@ use Rattle.compare.proofs.rows.is_same.Statement.{statement}
 use Rattle.compare.proofs.rows.is_same.Tie as tie
 
 abbrev Inv-loop : tie.InvT-loop
-Inv-loop area at other from cells i₀ i = Unit
+Inv-loop area other cells i₀ i = Unit
 
 abbrev μ-loop : tie.MeasureT-loop
-μ-loop area at other from cells i₀ i = cells - i
+μ-loop area other cells i₀ i = cells - i
 
 pub is-same-spec : {M : Type 1} → statement M
 is-same-spec =
@@ -17,8 +17,6 @@ is-same-spec =
     Inv-loop
     μ-loop
     (λ c. search needs)
-    (λ c κs. search needs)
-    (λ c κs. search needs)
     (λ c κs. search needs)
     (λ c κs. search needs)
     (λ c. search needs)

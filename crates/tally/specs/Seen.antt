@@ -1,0 +1,128 @@
+-- What becomes of each schedule that the search finds: it is counted, kept if it comes before the one kept, and
+-- written as a row where the area has room for it.
+use Prim.Native.Nat.{ℕ, _+_, _*_, _<_}
+use mathlib.Core.Bool.{cond}
+use mathlib.Core.List.{List, _∷_, _++_, foldl}
+use mathlib.Core.Path.{_≡_}
+use lib.Dec.{leb}
+use lib.ListN.{length, getD, take, drop}
+use Rattle.base.specs.Order.{isBefore}
+use Rattle.scan.specs.Model.{lastEnd, Problem, starts, scanOf, problemOf}
+use Rattle.timetable.specs.Mark.{places, noStarts}
+use Rattle.network.specs.Network.{capOf, variantOf, actsOf}
+use Rattle.tally.specs.Tables.{problemIn}
+use Rattle.tally.specs.declared.Tally.{Tally}
+use Rattle.plan.specs.Limits.{cellValues}
+use Rattle.variant.specs.declared.Variant.{Variant}
+
+-- The variant's number, the number of the plan's activities, and the cap.
+pub record Setting : Type 0 where
+  pub variant : ℕ
+  pub acts : ℕ
+  pub cap : ℕ
+
+abbrev pub settingOf : ℕ → ℕ → ℕ → Setting
+settingOf variant acts cap = record { variant = variant; acts = acts; cap = cap }
+
+-- Nothing found yet; only a schedule that ends by `end` is to be kept.
+abbrev pub noTally : ℕ → Tally
+noTally end = record { count = 0; «best_end» = end; «best_variant» = 0; best = record { starts = noStarts } }
+
+pub record Kept : Type 0 where
+  pub tally : Tally
+  pub area : List ℕ
+
+abbrev pub kept : Tally → List ℕ → Kept
+kept tally area = record { tally = tally; area = area }
+
+-- The working cells hold the count, the least latest end so far, its variant and its starts.
+abbrev pub countCell : ℕ
+countCell = 0
+
+abbrev pub bestEndCell : ℕ
+bestEndCell = 1
+
+abbrev pub bestVariantCell : ℕ
+bestVariantCell = 2
+
+abbrev pub startsFrom : ℕ
+startsFrom = 3
+
+abbrev pub tallyCells : ℕ
+tallyCells = startsFrom + places
+
+pub record IsTally (cells : List ℕ) : Type 0 where
+  pub size : length cells ≡ tallyCells
+  pub starts : (i : ℕ) → i < places → getD cells (startsFrom + i) 0 < cellValues
+
+abbrev pub tallyOf : List ℕ → Tally
+tallyOf cells =
+    record {
+      count = getD cells countCell 0;
+      «best_end» = getD cells bestEndCell 0;
+      «best_variant» = getD cells bestVariantCell 0;
+      best = record { starts = drop startsFrom cells };
+    }
+
+abbrev pub keptOf : List ℕ → List ℕ → Kept
+keptOf cells area = record { tally = tallyOf cells; area = area }
+
+-- The setting that stands in the search's table.
+abbrev pub settingIn : List ℕ → Setting
+settingIn t = settingOf (variantOf t) (actsOf t) (capOf t)
+
+-- The area with a row in its own stretch, or unchanged where that does not fit.
+unfoldable pub rowPlaced : List ℕ → ℕ → List ℕ → List ℕ
+rowPlaced area at row =
+    cond (leb (at + length row) (length area)) (take at area ++ row ++ drop (at + length row) area) area
+
+unfoldable pub foundRow : Problem → Setting → List ℕ → List ℕ
+foundRow p q ends = q .variant ∷ starts p (q .acts) ends
+
+-- Schedules are ranked by their latest end, then by their variant, then by their starts.
+abbrev pub rankOf : Problem → ℕ → List ℕ → List ℕ
+rankOf p variant ends = lastEnd ends ∷ variant ∷ starts p places ends
+
+abbrev pub rankKept : Tally → List ℕ
+rankKept t = t .«best_end» ∷ t .«best_variant» ∷ t .best .starts
+
+unfoldable pub better : Problem → Setting → Tally → List ℕ → Tally
+better p q t ends =
+    cond (isBefore (rankOf p (q .variant) ends) (rankKept t))
+    (record {
+      count = t .count + 1;
+      «best_end» = lastEnd ends;
+      «best_variant» = q .variant;
+      best = record { starts = starts p places ends };
+    })
+    (record {
+      count = t .count + 1;
+      «best_end» = t .«best_end»;
+      «best_variant» = t .«best_variant»;
+      best = t .best;
+    })
+
+unfoldable pub counted : Problem → Setting → Kept → List ℕ → Kept
+counted p q k ends =
+    record {
+      tally = better p q (k .tally) ends;
+      area = rowPlaced (k .area) (k .tally .count * (q .acts + 1)) (foundRow p q ends);
+    }
+
+-- Once the count is above the cap nothing more is done.
+unfoldable pub seen : Problem → Setting → Kept → List ℕ → Kept
+seen p q k ends = cond (leb (k .tally .count) (q .cap)) (counted p q k ends) k
+
+-- Every schedule of the variant with that number, in the order in which the search finds them.
+unfoldable pub allSeen : Variant → ℕ → ℕ → Kept → Kept
+allSeen x number cap k = foldl (seen (problemOf x) (settingOf number (x .acts) cap)) k (scanOf x)
+
+-- The same by the search's table.
+abbrev pub rowIn : List ℕ → List ℕ → List ℕ
+rowIn t = foundRow (problemIn t) (settingIn t)
+
+abbrev pub rankIn : List ℕ → List ℕ → List ℕ
+rankIn t = rankOf (problemIn t) (variantOf t)
+
+abbrev pub seenIn : List ℕ → Kept → List ℕ → Kept
+seenIn t = seen (problemIn t) (settingIn t)
