@@ -1,5 +1,6 @@
 // The search for the active schedules, variant by variant: recursive, sets of activities as masks, arrays stored to and
-// restored. Rows are sorted as a whole once all are written.
+// restored. A schedule that a lower variant has is left out, and a variant that is a lower one again is not searched.
+// Rows are sorted as a whole once all are written.
 #include "peer.h"
 
 #include <string.h>
@@ -13,6 +14,7 @@ namespace {
 constexpr int kActivities = 24;
 constexpr int kResources = 16;
 constexpr int kNodes = 64;
+constexpr int kVariants = 4096;
 constexpr uint16_t kMark = 65535;
 constexpr uint32_t kNever = UINT32_MAX;
 
@@ -21,6 +23,8 @@ struct Plan {
   uint32_t nodes = 0;
   uint32_t resource[kActivities];
   uint32_t duration[kActivities];
+  // The activities on each resource.
+  uint32_t on[kResources] = {};
   uint8_t letter[kNodes];
   uint32_t number[kNodes];
   // Of the term at each node: its variants, and the node behind it.
@@ -71,6 +75,7 @@ Plan read(const uint8_t *file) {
   for (uint32_t i = 0; i < plan.activities; i++) {
     plan.resource[i] = reader.number();
     plan.duration[i] = reader.number();
+    plan.on[plan.resource[i]] |= 1u << i;
   }
   plan.nodes = reader.number();
   for (uint32_t n = 0; n < plan.nodes; n++) {
@@ -102,21 +107,70 @@ uint32_t choose(const Plan &plan, uint32_t node, uint32_t variant, uint32_t *bef
   return all;
 }
 
+// A variant that was searched: its activities, the predecessors of each, and the last one before it with the same
+// activities.
+struct Order {
+  uint32_t present;
+  uint32_t before[kActivities];
+  const Order *lower;
+};
+
+// The variants that were searched, found by their activities: a hash table with room for twice as many.
+class Orders {
+ public:
+  void clear(uint32_t variants) {
+    bits_ = 1;
+    while (1u << bits_ < 2 * variants) bits_++;
+    memset(last_, 0, sizeof *last_ << bits_);
+    count_ = 0;
+  }
+
+  // The last one with these activities, or the place for it.
+  const Order *&last(uint32_t present) {
+    uint32_t at = present * 2654435769u >> (32 - bits_);
+    while (last_[at] != nullptr && last_[at]->present != present) at = (at + 1) % (1u << bits_);
+    return last_[at];
+  }
+
+  const Order *add(uint32_t present, const uint32_t *before, const Order *lower) {
+    Order &order = orders_[count_++];
+    order.present = present;
+    memcpy(order.before, before, sizeof order.before);
+    order.lower = lower;
+    return &order;
+  }
+
+ private:
+  uint32_t bits_;
+  uint32_t count_;
+  const Order *last_[2 * kVariants];
+  Order orders_[kVariants];
+};
+
+// The activities that have other predecessors.
+uint32_t difference(const uint32_t *before, const uint32_t *other) {
+  uint32_t set = 0;
+  for (uint32_t i = 0; i < kActivities; i++) set |= uint32_t{before[i] != other[i]} << i;
+  return set;
+}
+
 class Search {
  public:
   Search(const Plan &plan, uint64_t cap) : plan_(plan), cap_(cap) {}
 
-  // Every variant, or false once there are more pairs than the cap. A row for each pair goes to `rows`, if there is one.
+  // Every variant, or false once there are more schedules than the cap. A row for each goes to `rows`, if there is one.
   bool run(uint16_t *rows) {
     rows_ = rows;
     count_ = 0;
     makespan_ = kNever;
+    orders_.clear(plan_.variants[0]);
     for (variant_ = 0; variant_ < plan_.variants[0]; variant_++) {
       memset(before_, 0, sizeof before_);
+      present_ = choose(plan_, 0, variant_, before_);
+      if (!is_new()) continue;
       memset(ends_, 0, sizeof ends_);
       memset(free_, 0, sizeof free_);
-      uint32_t present = choose(plan_, 0, variant_, before_);
-      if (!branch(present, 0)) return false;
+      if (!(lowers_ == 0 ? branch<false>(present_, 0) : branch<true>(present_, 0))) return false;
     }
     return true;
   }
@@ -130,6 +184,66 @@ class Search {
   }
 
  private:
+  // A lower variant with the same activities, and those that have other predecessors in it.
+  struct Lower {
+    const Order *order;
+    uint32_t other;
+  };
+
+  // Collects the lower variants with the same activities; false where one of them has the same predecessors too.
+  bool is_new() {
+    const Order *&last = orders_.last(present_);
+    lowers_ = 0;
+    for (const Order *order = last; order != nullptr; order = order->lower) {
+      uint32_t other = difference(before_, order->before);
+      if (other == 0) return false;
+      lower_[lowers_++] = {order, other};
+    }
+    last = orders_.add(present_, before_, last);
+    return true;
+  }
+
+  // Does i fit on its resource from a tick on and sooner than it stands? Each of the others is in the way once at most.
+  bool fits_sooner(uint32_t i, uint32_t tick) const {
+    uint32_t length = plan_.duration[i];
+    uint32_t others = plan_.on[plan_.resource[i]] & present_ & ~(1u << i);
+    while (tick + length < ends_[i]) {
+      uint32_t set = others, k;
+      do {
+        if (set == 0) return true;
+        k = __builtin_ctz(set);
+        set &= set - 1;
+      } while (ends_[k] <= tick || ends_[k] >= tick + length + plan_.duration[k]);
+      tick = ends_[k];
+      others &= ~(1u << k);
+    }
+    return false;
+  }
+
+  // Is the schedule active for a lower variant? It is so at every activity with the same predecessors.
+  bool has(const Lower &lower) const {
+    for (uint32_t set = lower.other; set != 0; set &= set - 1) {
+      uint32_t i = __builtin_ctz(set);
+      uint32_t start = ends_[i] - plan_.duration[i];
+      uint32_t ready = 0;
+      for (uint32_t done = lower.order->before[i]; done != 0; done &= done - 1) {
+        uint32_t end = ends_[__builtin_ctz(done)];
+        if (end > start) return false;
+        ready = std::max(ready, end);
+      }
+      if (fits_sooner(i, ready)) return false;
+    }
+    return true;
+  }
+
+  // Does a lower variant have the schedule? Inlined, this would slow the search down.
+  [[gnu::noinline]] bool is_shared() const {
+    for (uint32_t n = 0; n < lowers_; n++) {
+      if (has(lower_[n])) return true;
+    }
+    return false;
+  }
+
   // An absent activity has no end.
   uint16_t start(const uint32_t *ends, uint32_t i) const {
     return i < plan_.activities && ends[i] != 0 ? ends[i] - plan_.duration[i] : kMark;
@@ -140,7 +254,10 @@ class Search {
     return std::lexicographical_compare(ends_, ends_ + kActivities, best_ends_, best_ends_ + kActivities);
   }
 
+  // A schedule is found. `kHasLower`: there are lower variants with the same activities.
+  template <bool kHasLower>
   bool finished(uint32_t latest) {
+    if (kHasLower && is_shared()) return true;
     if (count_ == cap_) return false;
     count_++;
     if (latest < makespan_ || (latest == makespan_ && variant_ == best_variant_ && ends_before())) {
@@ -156,8 +273,9 @@ class Search {
   }
 
   // Each way to go on from the frozen activities, `left` not being frozen; `latest` is the latest end so far.
+  template <bool kHasLower>
   bool branch(uint32_t left, uint32_t latest) {
-    if (left == 0) return finished(latest);
+    if (left == 0) return finished<kHasLower>(latest);
     uint32_t earliest[kActivities];
     uint32_t open = 0;
     uint32_t key = kNever;
@@ -179,7 +297,7 @@ class Search {
       uint32_t end = earliest[i] + plan_.duration[i];
       ends_[i] = end;
       free_[resource] = end;
-      if (!branch(left & ~(1u << i), std::max(latest, end))) return false;
+      if (!branch<kHasLower>(left & ~(1u << i), std::max(latest, end))) return false;
     }
     free_[resource] = free;
     return true;
@@ -188,6 +306,7 @@ class Search {
   const Plan &plan_;
   const uint64_t cap_;
   uint32_t variant_ = 0;
+  uint32_t present_ = 0;
   uint32_t before_[kActivities];
   uint32_t ends_[kActivities];
   uint32_t free_[kResources];
@@ -196,6 +315,9 @@ class Search {
   uint32_t best_variant_ = 0;
   uint32_t best_ends_[kActivities];
   uint16_t *rows_ = nullptr;
+  uint32_t lowers_ = 0;
+  Lower lower_[kVariants];
+  Orders orders_;
 };
 
 // By the first cells that differ; `std::array` compares more slowly.

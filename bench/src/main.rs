@@ -8,7 +8,8 @@ use plans::Plan;
 use reference::file::parse;
 use reference::is_session;
 use reference::orders;
-use reference::project::Project;
+use reference::project::{Project, Schedule};
+use std::collections::{HashMap, HashSet};
 
 #[cfg(not(feature = "stand-in"))]
 const PLANNER: (planner::Linked, &str) = (planner::Linked, "planner");
@@ -106,7 +107,8 @@ fn ratio(a: Option<f64>, b: Option<f64>) -> String {
     }
 }
 
-/// The number of pairs and the shortest makespan, by every order on every resource; none where those are too many.
+/// The number of sessions, each counted once, and the shortest makespan, by every order on every resource; none where
+/// those are too many.
 fn enumerated(plan: &reference::file::Plan) -> Option<(u64, u64)> {
     let project = |variant: u64| Project::new(&plan.activities, &plan.term.variant(variant));
     let variants = 0..plan.term.variant_count();
@@ -114,15 +116,18 @@ fn enumerated(plan: &reference::file::Plan) -> Option<(u64, u64)> {
     for variant in variants.clone() {
         left -= orders::combinations(&project(variant), left)?;
     }
-    let (mut count, mut shortest) = (0, u64::MAX);
+    let mut shortest = u64::MAX;
+    let mut by_activities: HashMap<Vec<usize>, HashSet<Schedule>> = HashMap::new();
     for variant in variants {
         let project = project(variant);
-        for starts in orders::active_schedules(&project) {
-            count += 1;
-            shortest = shortest.min(project.makespan(&starts));
+        let found = orders::active_schedules(&project);
+        shortest = found.iter().map(|starts| project.makespan(starts)).fold(shortest, u64::min);
+        match by_activities.get_mut(&project.numbers) {
+            Some(others) => others.extend(found),
+            None => drop(by_activities.insert(project.numbers, found)),
         }
     }
-    Some((count, shortest))
+    Some((by_activities.values().map(|found| found.len() as u64).sum(), shortest))
 }
 
 fn best_table(title: &str, plans: &[Plan]) {

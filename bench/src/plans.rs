@@ -39,7 +39,7 @@ fn flat(sizes: &[usize]) -> Plan {
 }
 
 /// Jobs side by side, each a sequence of activities on the resources that `resource` gives for a job and a step.
-fn shop(name: &str, jobs: usize, steps: usize, resource: impl Fn(usize, usize) -> usize) -> Plan {
+fn shop(jobs: usize, steps: usize, resource: impl Fn(usize, usize) -> usize) -> (Vec<(usize, u64)>, String) {
     let mut activities = vec![];
     let mut nodes = format!("p,{jobs}");
     for job in 0..jobs {
@@ -49,16 +49,25 @@ fn shop(name: &str, jobs: usize, steps: usize, resource: impl Fn(usize, usize) -
             activities.push((resource(job, step), duration(activities.len())));
         }
     }
-    plan(&format!("{name} {jobs} x {steps}"), &activities, &nodes)
+    (activities, nodes)
 }
 
 fn flow_shop(jobs: usize, steps: usize) -> Plan {
-    shop("flow shop", jobs, steps, |_, step| step)
+    let (activities, nodes) = shop(jobs, steps, |_, step| step);
+    plan(&format!("flow shop {jobs} x {steps}"), &activities, &nodes)
+}
+
+/// The same shop under both picks of an x.
+fn flow_shop_twice(jobs: usize, steps: usize) -> Plan {
+    let (activities, nodes) = shop(jobs, steps, |_, step| step);
+    plan(&format!("flow shop {jobs} x {steps} twice"), &activities, &format!("x,2 {nodes} {nodes}"))
 }
 
 /// Every other job goes the other way round.
 fn job_shop(jobs: usize, steps: usize) -> Plan {
-    shop("job shop", jobs, steps, |job, step| (job + if job % 2 == 0 { step } else { steps - 1 - step }) % steps)
+    let resource = |job, step| (job + if job % 2 == 0 { step } else { steps - 1 - step }) % steps;
+    let (activities, nodes) = shop(jobs, steps, resource);
+    plan(&format!("job shop {jobs} x {steps}"), &activities, &nodes)
 }
 
 /// Jobs that begin with a choice between two resources.
@@ -82,13 +91,28 @@ fn twelve_choices() -> Plan {
     plan("p of 12 x of 2", &activities, &format!("p,12{choices}"))
 }
 
+/// A p over six x of two orders and three activities more: 64 variants with the same activities, which share many
+/// sessions. An x has two activities in sequence, or else the other way round or side by side.
+fn six_orders() -> Plan {
+    let activities: Vec<(usize, u64)> = (0..15).map(|i| (i % 5, duration(i))).collect();
+    let choice = |i: usize| {
+        let (a, b) = (2 * i, 2 * i + 1);
+        let other = if i % 3 == 2 { format!("s,2 a,{b} a,{a}") } else { format!("p,2 a,{a} a,{b}") };
+        format!(" x,2 s,2 a,{a} a,{b} {other}")
+    };
+    let choices: String = (0..6).map(choice).collect();
+    plan("p of 6 x of 2 orders", &activities, &format!("p,9{choices} a,12 a,13 a,14"))
+}
+
 pub fn main_plans() -> Vec<Plan> {
     vec![
         job_shop(5, 3),
         shop_with_choices(4, 3),
         flat(&[7]),
         flow_shop(5, 3),
+        flow_shop_twice(5, 3),
         job_shop(6, 3),
+        six_orders(),
         flow_shop(5, 4),
         job_shop(6, 4),
         twelve_choices(),

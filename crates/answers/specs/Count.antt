@@ -1,4 +1,4 @@
--- COUNT: the number of pairs of a variant and an active session of it, unless they are more than the cap.
+-- COUNT: the number of active sessions of all variants, each counted once, unless they are more than the cap.
 use Prim.Native.Nat.{ℕ}
 use mathlib.Core.Bool.{Bool, true, false}
 use mathlib.Core.List.{List}

@@ -1,6 +1,6 @@
 -- The listing and a shortest session in the words of the paper, with no tests and no box.
 use Prim.Native.Nat.{ℕ, _≤_, _<_}
-use mathlib.Core.List.{List, _∷_, _++_, List·Memᴰ, List·Nodup, Pairwise}
+use mathlib.Core.List.{List, _∷_, _++_, map, List·Memᴰ, List·Nodup, Pairwise}
 use mathlib.Core.Logic.{_↔_, _≢_, _⊎_}
 use mathlib.Core.Path.{_≡_}
 use lib.ListN.{length, drop}
@@ -13,13 +13,20 @@ use Rattle.judge.specs.Judge.{judge, accepts}
 use Rattle.base.specs.Lists.{cellsOf}
 use Rattle.answers.specs.Shortest.{rowVariant, rowStarts, rowSpan}
 
--- A row is v and then N starts: v is a variant, and the starts are an active session of it.
+-- Active for some variant: the union over the variants, of document 000.
+pub record ActiveForSome (p : Plan) (t : Term) (starts : List ℕ) : Type 0 where
+  pub variant : ℕ
+  pub below : variant < variantCount t
+  pub session : ActiveSession p (variantAt t variant) starts
+
+-- A row is v and then N starts: v is the lowest variant for which the starts are an active session.
 pub record IsRow (p : Plan) (t : Term) (row : List ℕ) : Type 0 where
   pub variant : ℕ
   pub starts : List ℕ
   pub whole : row ≡ variant ∷ starts
   pub below : variant < variantCount t
   pub session : ActiveSession p (variantAt t variant) starts
+  pub lowest : (u : ℕ) → u < variant → ActiveSession p (variantAt t u) starts → ⊥
 
 -- By variant number, then by the start of activity 0, then of activity 1 and so on through the present ones.
 abbrev pub StandsBefore : Term → List ℕ → List ℕ → Type 0
@@ -27,11 +34,13 @@ StandsBefore t a b =
     (rowVariant a < rowVariant b)
     ⊎ ((rowVariant a ≡ rowVariant b) × Sooner (variantAt t (rowVariant a)) (rowStarts a) (rowStarts b))
 
--- Exactly these rows, each standing before all that follow it, and so none of them twice.
+-- Exactly these rows, each standing before all that follow it. Their sessions are the union, none of them twice: starts
+-- that are equal have the mark at the same activities, so that they are the same session.
 pub record Listing (p : Plan) (t : Term) (rows : List (List ℕ)) : Type 0 where
   pub exactly : (row : List ℕ) → List·Memᴰ row rows ↔ IsRow p t row
   pub ordered : Pairwise (StandsBefore t) rows
-  pub once : List·Nodup rows
+  pub union : (starts : List ℕ) → List·Memᴰ starts (map rowStarts rows) ↔ ActiveForSome p t starts
+  pub once : List·Nodup (map rowStarts rows)
 
 -- What LIST leaves in the area when it answers n: n such rows from the front with no gap, and what stood behind them.
 pub record ListingOf (s : List ℕ) (n : ℕ) (before after : List ℕ) : Type 0 where

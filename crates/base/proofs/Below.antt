@@ -4,8 +4,8 @@ use Prim.Native.Nat.{ℕ, zero, suc, _+_, _*_, _≤_, _<_, zero-le}
 use native.Mathlib.Nat.{not-suc-le-zero, le-antisymm}
 use native.Mathlib.Decide.{ℕ-discrete, decLe}
 use native.Mathlib.Omega.{arith}
-use mathlib.Core.Bool.{Bool, true, false, cond}
-use mathlib.Core.Path.{_≡_, refl, sym, _∙_, ap}
+use mathlib.Core.Bool.{Bool, true, false, cond, _&&_}
+use mathlib.Core.Path.{_≡_, refl, sym, _∙_, ap, ap₂}
 use mathlib.Core.Logic.{_≢_, by-cases}
 use lib.Dec.{eqb}
 use borrow.Author.Tests.{eq-eqb, ne-eqb}
@@ -50,6 +50,11 @@ pub every-of : (n : ℕ) (f : ℕ → Bool) → ((i : ℕ) → i < n → f i ≡
 unfolding everyBelow
 every-of zero f h = refl
 every-of (suc n) f h = both (every-of n f (λ i l. h i (omega arith))) (h n (omega arith))
+
+pub every-same : (n : ℕ) (f g : ℕ → Bool) → ((i : ℕ) → i < n → f i ≡ g i) → everyBelow n f ≡ everyBelow n g
+unfolding everyBelow
+every-same zero f g h = refl
+every-same (suc n) f g h = ap₂ _&&_ (every-same n f g (λ i l. h i (omega arith))) (h n (omega arith))
 
 pub every-fails : (n : ℕ) (f : ℕ → Bool) → everyBelow n f ≡ false → (i : ℕ) × (i < n) × (f i ≡ false)
 unfolding everyBelow

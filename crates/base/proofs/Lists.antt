@@ -3,19 +3,21 @@ use Prim.Native.Nat.{ℕ, zero, suc, _*_, _≤_, _<_}
 use native.Mathlib.Nat.{ℕ-set, not-suc-le-zero, suc-mul}
 use native.Mathlib.Decide.{ℕ-discrete, decLe}
 use native.Mathlib.Omega.{arith}
-use mathlib.Core.Bool.{Bool, true}
+use mathlib.Core.Bool.{Bool, true, false, cond, _||_}
 use mathlib.Core.Path.{_≡_, refl, sym, _∙_, ap, ap₂}
 use mathlib.Core.HLevel.{⊥-prop, ¬-prop}
 use mathlib.Core.Logic.{_≢_, _⊎_, inl, inr, ⊎-elim, ∥∥₁-elim, ∥∥₁-map, by-cases}
-use mathlib.Core.List.{List, [], _∷_, _++_, map, append-nil, Perm, Perm·refl, Perm·append, List·Memᴰ, List·Memᴰ·head}
+use mathlib.Core.List.{List, [], _∷_, _++_, map, foldl, append-nil, Perm, Perm·refl, Perm·append, List·Memᴰ, List·Memᴰ·head}
 use mathlib.Core.List.{List·Memᴰ·tail, List·Mem, List·Memᴰ·not-nil, List·Memᴰ·cases-cons, Memᴰ·append-left}
 use mathlib.Core.List.{Memᴰ·append-right, List·Memᴰ·append-cases, List·Nodup, Memᴰ·cast, Pairwise}
 use mathlib.Core.List.{List·Memᴰ·eq-of-singleton, Pairwise·nil, Pairwise·cons, pairwise-cons, pairwise-append}
-use mathlib.Core.List.{List·Permᴰ, List·Permᴰ·nil, List·Permᴰ·cons, List·Permᴰ·swap, List·Permᴰ·trans}
-use lib.ListN.{length, getD, take, length-append, length-take, List·getD-append}
+use mathlib.Core.List.{Permᴰ·refl, List·Permᴰ, List·Permᴰ·nil, List·Permᴰ·cons, List·Permᴰ·swap, List·Permᴰ·trans}
+use lib.ListN.{length, getD, take, replicate, length-append, length-take, List·getD-append}
 use lib.Seq.{ext-getD, getD-take, getD-append-seam}
-use Rattle.base.specs.Lists.{keep, gather, leastOf, cellsOf}
-use Rattle.base.proofs.Bools.{by-bool, true-not-false}
+use lib.Dec.{eqb}
+use borrow.Author.Tests.{eqb-true, eq-eqb}
+use Rattle.base.specs.Lists.{keep, gather, sameRow, isOneOf, leastOf, cellsOf}
+use Rattle.base.proofs.Bools.{by-bool, true-not-false, both, and-left, and-right}
 
 module _ {ℓ} {A : Type ℓ} where
   -- A membership of which only the fact is known, where elements can be told apart.
@@ -69,6 +71,53 @@ module _ {ℓ} {A : Type ℓ} where
       rw y
       (Pairwise·cons (λ a m. first a (∥∥₁-map m (λ n. (keep-is f xs n) .0))) (keep-pairwise f xs rest)))
       (λ z. rw z (keep-pairwise f xs rest))
+
+  -- A fold that passes over what fails the test.
+  pub fold-keep {κ} : {B : Type κ} (f : A → Bool) (step : B → A → B) (k : B) (l : List A)
+      → foldl (λ b a. cond (f a) (step b a) b) k l ≡ foldl step k (keep f l)
+  unfolding keep
+  fold-keep f step k [] = refl
+  fold-keep f step k (x ∷ xs) =
+      by-bool (f x) (λ y. rw y (fold-keep f step (step k x) xs)) (λ z. rw z (fold-keep f step k xs))
+
+  -- A test that every element fails, and two that agree on the elements.
+  pub keep-none : (f : A → Bool) (l : List A) → ((a : A) → f a ≡ false) → keep f l ≡ []
+  unfolding keep
+  keep-none f [] none = refl
+  keep-none f (x ∷ xs) none = rw (none x) (keep-none f xs none)
+
+  pub keep-same : (f g : A → Bool) (l : List A) → ((a : A) → List·Memᴰ a l → f a ≡ g a) → keep f l ≡ keep g l
+  unfolding keep
+  keep-same f g [] each = refl
+  keep-same f g (x ∷ xs) each =
+      let rest : keep f xs ≡ keep g xs = keep-same f g xs (λ a m. each a (List·Memᴰ·tail m)) in
+      ap₂ (λ (b : Bool) (l : List A). cond b (x ∷ l) l) (each x (List·Memᴰ·head refl)) rest
+
+  keep-derived : (f : A → Bool) {l m : List A} → List·Permᴰ l m → List·Permᴰ (keep f l) (keep f m)
+  unfolding keep
+  keep-derived f List·Permᴰ·nil = List·Permᴰ·nil
+  keep-derived f (List·Permᴰ·cons {a} {b} e d) =
+      by-bool
+      (f a)
+      (λ y. rw (y, sym (ap f e) ∙ y) (List·Permᴰ·cons e (keep-derived f d)))
+      (λ z. rw (z, sym (ap f e) ∙ z) (keep-derived f d))
+  keep-derived f (List·Permᴰ·swap {a} {b} {a′} {b′} {l} e e′) =
+      by-bool
+      (f a)
+      (λ y.
+      by-bool
+      (f b)
+      (λ y′. rw (y, y′, sym (ap f e) ∙ y, sym (ap f e′) ∙ y′) (List·Permᴰ·swap e e′))
+      (λ z′. rw (y, z′, sym (ap f e) ∙ y, sym (ap f e′) ∙ z′) (List·Permᴰ·cons e (Permᴰ·refl (keep f l)))))
+      (λ z.
+      by-bool
+      (f b)
+      (λ y′. rw (z, y′, sym (ap f e) ∙ z, sym (ap f e′) ∙ y′) (List·Permᴰ·cons e′ (Permᴰ·refl (keep f l))))
+      (λ z′. rw (z, z′, sym (ap f e) ∙ z, sym (ap f e′) ∙ z′) (Permᴰ·refl (keep f l))))
+  keep-derived f (List·Permᴰ·trans d d′) = List·Permᴰ·trans (keep-derived f d) (keep-derived f d′)
+
+  pub keep-perm : (f : A → Bool) {l m : List A} → Perm l m → Perm (keep f l) (keep f m)
+  keep-perm f d = ∥∥₁-map d (keep-derived f)
 
   -- gather
 
@@ -168,6 +217,16 @@ pub map-map {ℓ κ μ} : {A : Type ℓ} {B : Type κ} {C : Type μ} (g : B → 
 map-map g f [] = refl
 map-map g f (x ∷ xs) = ap (g (f x) ∷_) (map-map g f xs)
 
+pub map-keep {ℓ κ} : {A : Type ℓ} {B : Type κ} (f : A → B) (test : B → Bool) (l : List A)
+    → map f (keep (λ a. test (f a)) l) ≡ keep test (map f l)
+unfolding keep
+map-keep f test [] = refl
+map-keep f test (x ∷ xs) =
+    by-bool
+    (test (f x))
+    (λ y. rw y (ap (f x ∷_) (map-keep f test xs)))
+    (λ z. rw z (map-keep f test xs))
+
 -- The first element, and what holds between it and the others.
 pub first-mem {ℓ} : {A : Type ℓ} (l : List A) (d : A) {a : A} → List·Memᴰ a l → List·Memᴰ (getD l 0 d) l
 first-mem [] d m = absurd (List·Memᴰ·not-nil m)
@@ -188,17 +247,10 @@ module _ {ℓ} {A : Type ℓ} where
   gather-perm zero f g each = Perm·refl []
   gather-perm (suc n) f g each = Perm·append (gather-perm n f g (λ i l. each i (omega arith))) (each n (omega arith))
 
-  -- As many elements as parts, if no part is empty.
-  pub gather-some : (n : ℕ) (f : ℕ → List A) → ((i : ℕ) → i < n → 1 ≤ length (f i)) → n ≤ length (gather n f)
-  unfolding gather
-  gather-some zero f each = omega arith
-  gather-some (suc n) f each =
-      omega (
-        arith,
-        length-append (gather n f) (f n),
-        gather-some n f (λ i l. each i (omega arith)),
-        each n (omega arith),
-      )
+pub zeros : (n i : ℕ) → _≡_ {A = ℕ} (getD (replicate n 0) i 0) 0
+zeros zero i = refl
+zeros (suc n) zero = refl
+zeros (suc n) (suc i) = zeros n i
 
 -- The front of a row of single elements.
 pub singles-front : (f : ℕ → ℕ) (m n : ℕ) → m ≤ n → take m (gather n λ i. f i ∷ []) ≡ gather m λ i. f i ∷ []
@@ -214,6 +266,35 @@ singles-front f m n le =
     getD-take m (gather n λ i. f i ∷ []) i 0 (omega arith)
     ∙ singles-at f n i 0 (omega arith)
     ∙ sym (singles-at f m i 0 (omega arith)))
+
+-- One of the rows, by the test.
+
+same-row : (a b : List ℕ) → sameRow a b ≡ true → a ≡ b
+same-row [] [] e = refl
+same-row [] (y ∷ ys) e = true-not-false e refl
+same-row (x ∷ xs) [] e = true-not-false e refl
+same-row (x ∷ xs) (y ∷ ys) e =
+    ap₂ _∷_ (eqb-true x y (and-left (eqb x y) (sameRow xs ys) e)) (same-row xs ys (and-right (eqb x y) (sameRow xs ys) e))
+
+row-same : (a : List ℕ) → sameRow a a ≡ true
+row-same [] = refl
+row-same (x ∷ xs) = both (eq-eqb x x refl) (row-same xs)
+
+pub one-of-is : (row : List ℕ) (rows : List (List ℕ)) → isOneOf row rows ≡ true → List·Memᴰ row rows
+one-of-is row [] e = true-not-false e refl
+one-of-is row (other ∷ rows) e =
+    by-bool
+    (sameRow row other)
+    (λ y. List·Memᴰ·head (same-row row other y))
+    (λ z. List·Memᴰ·tail (one-of-is row rows (rw z at e)))
+
+pub one-of : (row : List ℕ) (rows : List (List ℕ)) → List·Memᴰ row rows → isOneOf row rows ≡ true
+one-of row [] m = absurd (List·Memᴰ·not-nil m)
+one-of row (other ∷ rows) m =
+    ⊎-elim
+    (λ q. ap (λ (b : Bool). b || isOneOf row rows) (ap (sameRow row) (sym q) ∙ row-same row))
+    (λ n. by-bool (sameRow row other) (λ y. rw y refl) (λ z. rw z (one-of row rows n)))
+    (List·Memᴰ·cases-cons m)
 
 -- The least number of a list.
 

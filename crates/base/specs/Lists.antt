@@ -1,7 +1,8 @@
 -- Lists made from tests and from numbers, and the cells of rows.
 use Prim.Native.Nat.{ℕ, zero, suc, min}
-use mathlib.Core.Bool.{Bool, true, cond, _&&_}
+use mathlib.Core.Bool.{Bool, true, false, cond, _&&_, _||_}
 use mathlib.Core.List.{List, [], _∷_, _++_}
+use lib.Dec.{eqb}
 
 -- Every element passes.
 abbrev pub every {ℓ} : {A : Type ℓ} → (A → Bool) → List A → Bool
@@ -23,6 +24,18 @@ abbrev pub leastOf : List ℕ → ℕ
 leastOf [] = 0
 leastOf (x ∷ []) = x
 leastOf (x ∷ y ∷ ys) = min x (leastOf (y ∷ ys))
+
+-- The same numbers in the same order.
+abbrev pub sameRow : List ℕ → List ℕ → Bool
+sameRow [] [] = true
+sameRow [] (y ∷ ys) = false
+sameRow (x ∷ xs) [] = false
+sameRow (x ∷ xs) (y ∷ ys) = eqb x y && sameRow xs ys
+
+-- The row is one of the rows.
+abbrev pub isOneOf : List ℕ → List (List ℕ) → Bool
+isOneOf row [] = false
+isOneOf row (other ∷ rows) = sameRow row other || isOneOf row rows
 
 -- Rows laid one after another.
 unfoldable pub cellsOf : List (List ℕ) → List ℕ

@@ -33,7 +33,8 @@ use Rattle.answers.specs.declared.CountAnswer.the-variants as counts
 use Rattle.answers.specs.declared.ListAnswer.the-variants as lists
 use Rattle.plan_exact.proofs.Variant.{chosen}
 use Rattle.variant.proofs.Tables.{tables-hold}
-use Rattle.plan_exact.proofs.Rows.{HeldEach, allRows}
+use Rattle.plan_exact.proofs.Union.{HeldEach}
+use Rattle.plan_exact.proofs.Rows.{allRows}
 use Rattle.sweep.specs.Swept.{tablesAt, swept}
 use Rattle.calls.proofs.Swept.{allowed, too-many, all-rows, placed-rows, kept-best}
 

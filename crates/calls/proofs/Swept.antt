@@ -1,10 +1,10 @@
 -- What a sweep over the variants of a valid plan has kept: the number of its pairs, their rows in some order, and the
 -- first shortest of them.
-use Prim.Native.Nat.{ℕ, zero, suc, _*_, _≤_, _<_}
+use Prim.Native.Nat.{ℕ, suc, _*_, _≤_, _<_}
 use native.Mathlib.Omega.{arith}
 use mathlib.Core.Bool.{true, false}
 use mathlib.Core.Path.{_≡_, refl, sym, ap, ap₂, subst, _∙_}
-use mathlib.Core.List.{List, _∷_, _++_, map, List·Memᴰ, Memᴰ·of-map, head-eq-of-cons-eq, tail-eq-of-cons-eq}
+use mathlib.Core.List.{List, _∷_, _++_, List·Memᴰ, Memᴰ·of-map, head-eq-of-cons-eq, tail-eq-of-cons-eq}
 use lib.Dec.{leb}
 use lib.ListN.{length, drop, length-map}
 use lib.Seq.{drop-at}
@@ -13,9 +13,10 @@ use Rattle.plan.specs.Limits.{latestPossible}
 use Rattle.plan.specs.Plan.{Plan}
 use Rattle.term.specs.Term.{Term}
 use Rattle.term.specs.Variants.{variantCount}
-use Rattle.base.specs.Lists.{gather, cellsOf}
+use Rattle.base.specs.Lists.{cellsOf}
 use Rattle.base.specs.Order.{NotAfter, sorted}
-use Rattle.scan.specs.Model.{starts, found, scanOf, problemOf, lastEnd}
+use Rattle.scan.specs.Model.{starts, problemOf, lastEnd}
+use Rattle.scan.specs.Union.{newOf}
 use Rattle.scan.proofs.Starts.{starts-length}
 use Rattle.tally.specs.Seen.{Kept, rankKept}
 use Rattle.tally.specs.Entries.{Entry, entryOf, entriesBelow, run}
@@ -29,19 +30,15 @@ use Rattle.answers.specs.Listed.{cellsNeeded}
 use Rattle.answers.specs.Shortest.{firstShortest, bestRow}
 use Rattle.answers.specs.declared.Best.{Best}
 use Rattle.answers.specs.declared.BestAnswer.the-variants.{Found}
-use Rattle.base.proofs.Lists.{map-map, gather-is, cells-length}
+use Rattle.base.proofs.Lists.{gather-is, cells-length}
 use Rattle.plan_exact.proofs.Variant.{chosen}
 use Rattle.plan_exact.proofs.Found.{variant-latest}
-use Rattle.plan_exact.proofs.Rows.{HeldEach, rowsOf, allRows, rows-sorted, rows-count, pairs-some}
-use Rattle.plan_exact.proofs.Answers.{ranked, earliest-best}
+use Rattle.plan_exact.proofs.Union.{HeldEach}
+use Rattle.plan_exact.proofs.Rows.{rowsOf, allRows, rows-sorted, rows-count, pairs-some}
+use Rattle.plan_exact.proofs.Answers.{ranked, new-found, earliest-best}
 use Rattle.sorting.specs.Rows.{rowsIn}
 use Rattle.sorting.proofs.Rows.{rows-in-cells}
 use Rattle.variant.specs.declared.Variant.{Variant}
-
-gather-same : (n : ℕ) (f g : ℕ → List (List ℕ)) → ((v : ℕ) → f v ≡ g v) → gather n f ≡ gather n g
-unfolding gather
-gather-same zero f g e = refl
-gather-same (suc n) f g e = ap₂ _++_ (gather-same n f g e) (e n)
 
 module _ (p : Plan) (t : Term) (valid : Valid p t) (x : ℕ → Variant) (held : HeldEach p t x) where
   abbrev acts : ℕ
@@ -51,14 +48,7 @@ module _ (p : Plan) (t : Term) (valid : Valid p t) (x : ℕ → Variant) (held :
   all = entriesBelow x (variantCount t)
 
   rows-are : rows acts all ≡ allRows p t x
-  unfolding found
-  rows-are =
-      rows-below x acts (variantCount t)
-      ∙ gather-same
-      (variantCount t)
-      (λ v. map (v ∷_) (found (problemOf (x v)) acts (x v .present)))
-      (rowsOf acts x)
-      (λ v. map-map (v ∷_) (starts (problemOf (x v)) acts) (scanOf (x v)))
+  rows-are = rows-below x acts (variantCount t)
 
   pub entries-count : length all ≡ pairCount p t
   entries-count =
@@ -68,7 +58,7 @@ module _ (p : Plan) (t : Term) (valid : Valid p t) (x : ℕ → Variant) (held :
   row-wide : (r : List ℕ) → List·Memᴰ r (allRows p t x) → length r ≡ suc acts
   row-wide r m =
       let (v, l, n) = gather-is (variantCount t) (rowsOf acts x) m in
-      let (ends, k, e) = Memᴰ·of-map (λ ends. v ∷ starts (problemOf (x v)) acts ends) (scanOf (x v)) n in
+      let (ends, k, e) = Memᴰ·of-map (λ ends. v ∷ starts (problemOf (x v)) acts ends) (newOf x v) n in
       sym (ap length e) ∙ ap suc (starts-length (problemOf (x v)) ends acts)
 
   pub placed-rows : (rest : List ℕ)
@@ -125,7 +115,7 @@ module _ (p : Plan) (t : Term) (valid : Valid p t) (x : ℕ → Variant) (held :
         omega (
           arith,
           ap (λ (y : Entry). lastEnd (y .ends)) is,
-          variant-latest p t v (chosen p t v valid l) (x v) (held v l) ends m,
+          variant-latest p t v (chosen p t v valid l) (x v) (held v l) ends (new-found x v ends m),
         ))
 
     -- The schedule that is kept is what BEST answers.

@@ -93,7 +93,7 @@ fn shortest(campaign: Campaign, cap: u32) -> Best
     }
 }
 
-// COUNT: the number of pairs of a variant and an active session of it.
+// COUNT: the number of active sessions of all variants, each counted once.
 pub fn count(file: &[u8], cap: u32) -> CountAnswer
     ensures { λ r. ⌜ r ≡ countOf (now (file .entry)) cap ⌝ }
 {

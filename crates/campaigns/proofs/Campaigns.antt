@@ -34,6 +34,7 @@ use Rattle.sets.specs.Sets
 use Rattle.sets.specs.Sets.{has, meet}
 use Rattle.scan.specs.Model.{leastBelow, ready, earliest, finish, isOpen, keyOf, key, isChoice, freeze, branches}
 use Rattle.scan.specs.Model.{problemOf, leaves, root, scanned, startOf, starts}
+use Rattle.scan.specs.Union.{isSoonest, activeUnder, isNewIn}
 use Rattle.variant.specs.Tables.{setOf, tablesOf}
 use Rattle.campaigns.proofs.Searched.{found, countModel, count-is, listModel, list-is, bestModel, best-is}
 use Rattle.campaigns.proofs.Searched.{spansModel, hasModel, spans-is}
@@ -76,11 +77,11 @@ test-holds (stops s cap r) e = best-is s cap ∙ best-same (bestModel s cap) _ e
 all-pass : every test table ≡ true
 unfolding table readBy variantsBy parse planLines aLine tested theLines theEnd matched digits isValue decimal termOf
     forest place size firsts others activities member some-of count clash share writeOf checkOf judge twice repeats
-    variants paired variantCount written variantPlan dissolved joined text actLines nodeLines filled Lines.numeral
-    nodes isSession isMarked feasible placed inOrder withinCapacity load latestEnd earliestStart makespan everyBelow sumBelow maxBelow
-    projectOf precedes countModel listModel spansModel hasModel bestModel found sorted keep cellsOf
-    problemOf tablesOf setOf gather scanned leaves branches root freeze isChoice key keyOf leastBelow isOpen finish
-    earliest ready Sets.size has meet starts startOf
+    variants paired variantCount written variantPlan dissolved joined text actLines nodeLines filled Lines.numeral nodes
+    isSession isMarked feasible placed inOrder withinCapacity load latestEnd earliestStart makespan everyBelow sumBelow
+    maxBelow projectOf precedes countModel listModel spansModel hasModel bestModel found sorted keep cellsOf problemOf
+    tablesOf setOf gather scanned leaves branches root freeze isChoice key keyOf leastBelow isOpen finish earliest ready
+    Sets.size has meet starts startOf isNewIn activeUnder isSoonest
 all-pass = refl
 
 every-of : (xs : List Row) → every test xs ≡ true → (row : Row) → List·Memᴰ row xs → test row ≡ true

@@ -123,6 +123,15 @@ twiceUnderX = file "plan=1/res=1/acts=1/act=0,1/nodes=3/node=x,2/node=a,0/node=a
 abbrev pub twiceUnderP : List ℕ
 twiceUnderP = file "plan=1/res=1/acts=1/act=0,1/nodes=3/node=p,2/node=a,0/node=a,0"
 
+abbrev pub threeOrders : List ℕ
+threeOrders = file "plan=1/res=1/acts=2/act=0,1/act=0,2/nodes=10/node=x,3/node=s,2/node=a,0/node=a,1/node=s,2/node=a,1/node=a,0/node=p,2/node=a,0/node=a,1"
+
+abbrev pub feasibleBelow : List ℕ
+feasibleBelow = file "plan=1/res=2/acts=2/act=0,1/act=1,2/nodes=7/node=x,2/node=p,2/node=a,0/node=a,1/node=s,2/node=a,0/node=a,1"
+
+abbrev pub otherActivities : List ℕ
+otherActivities = file "plan=1/res=1/acts=2/act=0,1/act=0,1/nodes=3/node=x,2/node=a,0/node=a,1"
+
 abbrev pub groupOfOne : List ℕ
 groupOfOne = file "plan=1/res=1/acts=1/act=0,1/nodes=2/node=s,1/node=a,0"
 
@@ -207,6 +216,11 @@ table =
     -- Activity 0 twice, under an x and under a p.
     ∷ reads twiceUnderX (Read 1 3 2)
     ∷ reads twiceUnderP (Refused Twice)
+    -- An x over two activities in both sequences and side by side; over the two side by side and in sequence; over the
+    -- two alone.
+    ∷ reads threeOrders (Read 2 10 3)
+    ∷ reads feasibleBelow (Read 2 7 2)
+    ∷ reads otherActivities (Read 2 3 2)
     -- p over twelve x of two distinct activities, and with one of an x's two activities named there once more: 6144.
     ∷ reads twelveChoices (Read 24 37 4096)
     ∷ has-variants twelveChoices 4096
@@ -235,6 +249,9 @@ table =
     ∷ checks dotTest 1 (timetable (absent ∷ 0 ∷ 2 ∷ 5 ∷ 5 ∷ [])) (Checked true)
     ∷ checks dotTest 0 (timetable (0 ∷ absent ∷ absent ∷ 4 ∷ [])) (Checked false)
     ∷ checks dotTest 0 (timetable (0 ∷ 0 ∷ absent ∷ 4 ∷ 4 ∷ [])) (Checked false)
+    -- In sequence, also where the two may stand side by side: feasible for variant 0, though not active.
+    ∷ checks feasibleBelow 1 (timetable (0 ∷ 1 ∷ [])) (Checked true)
+    ∷ checks feasibleBelow 0 (timetable (0 ∷ 1 ∷ [])) (Checked true)
     -- The dot test: variant 1 has two sessions of makespan 11, variant 0 one of 10. Caps on both sides of their number.
     ∷ spans dotTest 0 (10 ∷ [])
     ∷ spans dotTest 1 (11 ∷ 11 ∷ [])
@@ -246,9 +263,38 @@ table =
     ∷ lists dotTest 3 17 (ListAnswers.Refused (AreaTooShort 18)) []
     ∷ lists dotTest 2 18 (ListAnswers.Refused OverCap) []
     ∷ lists dotTest 0 18 (ListAnswers.Refused OverCap) []
-    -- Activity 0 under both picks of an x counts twice.
-    ∷ counts twiceUnderX 9 (Counted 2)
-    ∷ lists twiceUnderX 2 5 (Listed 2) ((0 ∷ 0 ∷ []) ∷ (1 ∷ 0 ∷ []) ∷ [])
+    -- Activity 0 under both picks of an x: one session of both variants, which counts once, under variant 0.
+    ∷ spans twiceUnderX 0 (1 ∷ [])
+    ∷ spans twiceUnderX 1 (1 ∷ [])
+    ∷ counts twiceUnderX 9 (Counted 1)
+    ∷ counts twiceUnderX 1 (Counted 1)
+    ∷ counts twiceUnderX 0 (CountAnswers.Refused OverCap)
+    ∷ lists twiceUnderX 1 4 (Listed 1) ((0 ∷ 0 ∷ []) ∷ [])
+    ∷ lists twiceUnderX 1 2 (Listed 1) ((0 ∷ 0 ∷ []) ∷ [])
+    ∷ lists twiceUnderX 1 1 (ListAnswers.Refused (AreaTooShort 2)) []
+    -- Both sessions of variant 2 are a lower variant's: 0 before 1 counts under variant 0, 1 before 0 under variant 1.
+    ∷ spans threeOrders 0 (3 ∷ [])
+    ∷ spans threeOrders 1 (3 ∷ [])
+    ∷ spans threeOrders 2 (3 ∷ 3 ∷ [])
+    ∷ counts threeOrders 3 (Counted 2)
+    ∷ counts threeOrders 2 (Counted 2)
+    ∷ counts threeOrders 1 (CountAnswers.Refused OverCap)
+    ∷ lists threeOrders 2 6 (Listed 2) ((0 ∷ 0 ∷ 1 ∷ []) ∷ (1 ∷ 2 ∷ 0 ∷ []) ∷ [])
+    ∷ lists threeOrders 2 5 (ListAnswers.Refused (AreaTooShort 6)) []
+    -- The session of variant 1 is not active for variant 0, so it counts under variant 1.
+    ∷ spans feasibleBelow 0 (2 ∷ [])
+    ∷ spans feasibleBelow 1 (3 ∷ [])
+    ∷ counts feasibleBelow 2 (Counted 2)
+    ∷ counts feasibleBelow 1 (CountAnswers.Refused OverCap)
+    ∷ lists feasibleBelow 2 6 (Listed 2) ((0 ∷ 0 ∷ 0 ∷ []) ∷ (1 ∷ 0 ∷ 1 ∷ []) ∷ [])
+    ∷ lists feasibleBelow 2 5 (ListAnswers.Refused (AreaTooShort 6)) []
+    -- The sessions of both variants start on tick 0, with other activities: they count apart.
+    ∷ spans otherActivities 0 (1 ∷ [])
+    ∷ spans otherActivities 1 (1 ∷ [])
+    ∷ counts otherActivities 2 (Counted 2)
+    ∷ counts otherActivities 1 (CountAnswers.Refused OverCap)
+    ∷ lists otherActivities 2 6 (Listed 2) ((0 ∷ 0 ∷ absent ∷ []) ∷ (1 ∷ absent ∷ 0 ∷ []) ∷ [])
+    ∷ lists otherActivities 2 5 (ListAnswers.Refused (AreaTooShort 6)) []
     -- Two contested resources on one tick; a free resource that has to wait; three sessions that are equally long;
     -- document 000, Example 2, second term.
     ∷ spans twoContested 0 (2 ∷ 2 ∷ 2 ∷ 2 ∷ [])
@@ -264,12 +310,18 @@ table =
     ∷ finds dotTest 3 0 10 3 (0 ∷ absent ∷ absent ∷ 4 ∷ 4 ∷ [])
     ∷ stops dotTest 2 OverCap
     ∷ stops dotTest 0 OverCap
-    -- Both variants are shortest, and 0 goes first; plans that the reader turns back.
-    ∷ finds twiceUnderX 1000000 0 1 2 (0 ∷ [])
+    -- One session of both variants, and caps on both sides of that number; sessions of variants 0 and 1 that are
+    -- equally long, and 0 goes first; the shorter one of variant 0; plans that the reader turns back.
+    ∷ finds twiceUnderX 1000000 0 1 1 (0 ∷ [])
+    ∷ finds twiceUnderX 1 0 1 1 (0 ∷ [])
+    ∷ stops twiceUnderX 0 OverCap
+    ∷ finds threeOrders 1000000 0 3 2 (0 ∷ 1 ∷ [])
+    ∷ finds otherActivities 1000000 0 1 2 (0 ∷ absent ∷ [])
+    ∷ finds feasibleBelow 1000000 0 2 2 (0 ∷ 0 ∷ [])
     ∷ stops twiceUnderP 1000000 Twice
     ∷ stops groupOfOne 1000000 (GroupOfOne 6)
-    -- Two contested resources on one tick; 22 is missed if a free resource never waits; the first of the three, whatever
-    -- is found first; document 000, Example 2, second term: the first of five.
+    -- Two contested resources on one tick; 22 is missed if a free resource never waits; the first of the three,
+    -- whatever is found first; document 000, Example 2, second term: the first of five.
     ∷ finds twoContested 1000000 0 2 4 (0 ∷ 1 ∷ 0 ∷ 1 ∷ [])
     ∷ finds freeResourceWaits 1000000 0 22 2 (2 ∷ 0 ∷ 1 ∷ 2 ∷ [])
     ∷ finds threeShortest 1000000 0 3 3 (1 ∷ 2 ∷ 0 ∷ [])

@@ -1,3 +1,4 @@
 -- Loops over candidates, predecessors and resources.
+pub mod Columns
 pub mod Folds
 pub mod Turns

@@ -1,2 +1,3 @@
 -- What the contracts on candidates and choices say.
+pub mod Tables
 pub mod Work

@@ -45,7 +45,7 @@ fn smaller(a: u32, b: u32) -> u32
 }
 
 // The latest end in a set of activities, 0 where there is none.
-fn latest(work: &Work, set: u32) -> u32
+pub fn latest(work: &Work, set: u32) -> u32
     requires { ⌜ set < 2 ^ most ⌝ }
     ensures { λ r. ⌜ r ≡ latestOf (now (work .entry)) set ⌝ }
 {

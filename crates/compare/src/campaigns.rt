@@ -75,6 +75,9 @@ fn put_sessions() {
     put_all_calls(b"two_contested", &samples::two_contested());
     put_all_calls(b"free_resource_waits", &samples::free_resource_waits());
     put_all_calls(b"twice_under_x", &samples::twice_under_x());
+    put_all_calls(b"three_orders", &samples::three_orders());
+    put_all_calls(b"feasible_below", &samples::feasible_below());
+    put_all_calls(b"other_activities", &samples::other_activities());
     put_all_calls(b"example_2", &samples::example_2());
     put_all_calls(b"three_shortest", &samples::three_shortest());
 }

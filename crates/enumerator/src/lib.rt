@@ -1,5 +1,6 @@
 // A plain enumerator of the active sessions of a plan file, by the definitions alone. It shares no code with the
 // planner.
+mod lower;
 mod placing;
 mod relation;
 mod rows;
@@ -7,15 +8,15 @@ mod session;
 
 use placing::Search;
 use plain::ACTS;
+use plain::Picks;
 use plain::Plan;
-use plain::Variant;
 
 // The start of an activity that is absent.
 pub const ABSENT: u16 = 65535;
 
-// The number of activities, and what the variants have together: the number of their active sessions, the least
-// makespan of a feasible session, and how many cells the rows of the active ones take. Where the file is refused, or
-// too many starts were tried, `known` is false and the rest means nothing.
+// The number of activities, and what the variants have together: the number of their active sessions, each counted
+// once, the least makespan of a feasible session, and how many cells the rows of the active ones take. Where the file
+// is refused, or too many starts were tried, `known` is false and the rest means nothing.
 pub struct Enumerated {
     pub known: bool,
     pub acts: usize,
@@ -24,24 +25,28 @@ pub struct Enumerated {
     pub cells: usize,
 }
 
-// The sessions of one more variant.
-fn with_variant(p: Plan, v: Variant, s: Search, area: &mut [u16]) -> Search {
+// The sessions of one more variant, that of the picks.
+fn with_variant(file: &[u8], p: Plan, picks: Picks, s: Search, area: &mut [u16]) -> Search {
+    let v = plain::picked(p, picks);
     let relations = relation::relations(p, v);
     let duration = v.duration;
     let mut t = s;
     t.room = v.room;
-    t = placing::place(&relations, &duration, [ABSENT; ACTS], 0, t, area);
+    t = placing::place(file, &relations, &duration, [ABSENT; ACTS], 0, t, area);
     t.variant = std::num::wrapping_add_u16(s.variant, 1);
     t
 }
 
-fn over_variants(p: Plan, variants: u32, area: &mut [u16]) -> Search {
+fn next_picks(p: Plan, picks: Picks) -> Picks {
+    plain::next(picks, plain::picked(p, picks), p)
+}
+
+fn over_variants(file: &[u8], p: Plan, variants: u32, area: &mut [u16]) -> Search {
     let mut s = placing::start(p.acts);
     let mut picks = plain::first();
     for i in 0..variants {
-        let v = plain::picked(p, picks);
-        s = with_variant(p, v, s, area);
-        picks = plain::next(picks, v, p);
+        s = with_variant(file, p, picks, s, area);
+        picks = next_picks(p, picks);
     }
     s
 }
@@ -56,14 +61,15 @@ fn unknown() -> Enumerated {
     }
 }
 
-// The active sessions of a plan, their rows from the front of the area: by variant, then by the start of activity 0,
-// then of activity 1, and so on. A row that does not fit is left out.
+// The active sessions of a plan, each once under the lowest variant that it is active for, their rows from the front of
+// the area: by variant, then by the start of activity 0, then of activity 1, and so on. A row that does not fit is left
+// out.
 pub fn enumerate(file: &[u8], area: &mut [u16]) -> Enumerated {
     let judged = plain::judge(file);
     if !judged.known | (judged.number != 0) {
         return unknown();
     }
-    let s = over_variants(plain::read(file), judged.variants, area);
+    let s = over_variants(file, plain::read(file), judged.variants, area);
     Enumerated {
         known: s.tried < placing::LIMIT,
         acts: s.acts,

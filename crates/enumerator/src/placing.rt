@@ -1,4 +1,5 @@
 // Every feasible session of a variant whose starts are at most the sum of its durations.
+use crate::lower::is_active_below;
 use crate::relation::PAIRS;
 use crate::session::active;
 use crate::session::fits;
@@ -6,7 +7,7 @@ use crate::session::makespan;
 use crate::session::spanned;
 use plain::ACTS;
 
-// A search ends when it has tried about this many starts.
+// A search ends when it has tried about this many starts, not counting those for lower variants.
 pub const LIMIT: u32 = 1000000000;
 
 // A search under way: the number of activities, the number of the variant and one more than the sum of its durations,
@@ -40,8 +41,9 @@ fn with_active(area: &mut [u16], starts: &[u16; ACTS], s: Search) -> Search {
     t
 }
 
-// A feasible session is found.
+// A feasible session is found. It has a row if it is active, and for no lower variant.
 fn with_session<'a>(
+    file: &'a [u8],
     relations: &'a [u8; PAIRS],
     duration: &'a [u16; ACTS],
     starts: &'a [u16; ACTS],
@@ -55,7 +57,7 @@ fn with_session<'a>(
     if length < s.makespan {
         t.makespan = length;
     }
-    if active(relations, duration, starts, s.acts) {
+    if active(relations, duration, starts, s.acts) && !is_active_below(file, s.variant, starts) {
         return with_active(area, starts, t);
     }
     t
@@ -72,6 +74,7 @@ fn with_start(starts: [u16; ACTS], i: usize, tick: u16) -> [u16; ACTS] {
 // The activities from i on, each at every tick where it fits those before it. Ticks rise, so sessions come by the start
 // of activity 0, then of activity 1, and so on.
 pub fn place<'a>(
+    file: &'a [u8],
     relations: &'a [u8; PAIRS],
     duration: &'a [u16; ACTS],
     starts: [u16; ACTS],
@@ -83,16 +86,17 @@ pub fn place<'a>(
         return s;
     }
     if ACTS <= i {
-        return with_session(relations, duration, &starts, s, area);
+        return with_session(file, relations, duration, &starts, s, area);
     }
     if duration[i] == 0 {
-        return place(relations, duration, starts, i + 1, s, area);
+        return place(file, relations, duration, starts, i + 1, s, area);
     }
     let mut t = s;
     t.tried = s.tried + s.room as u32;
     for tick in 0..s.room {
         if fits(relations, duration, &starts, s.acts, i, tick) {
             t = place(
+                file,
                 relations,
                 duration,
                 with_start(starts, i, tick),

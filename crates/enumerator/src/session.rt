@@ -74,6 +74,21 @@ pub fn fits<'a>(
     true
 }
 
+// May each activity start where it does, the others as they stand?
+pub fn feasible<'a>(
+    relations: &'a [u8; PAIRS],
+    duration: &'a [u16; ACTS],
+    starts: &'a [u16; ACTS],
+    n: usize,
+) -> bool {
+    for i in 0..ACTS {
+        if (starts[i] != ABSENT) && !fits(relations, duration, starts, n, i, starts[i]) {
+            return false;
+        }
+    }
+    true
+}
+
 // May activity i start sooner, the others unchanged?
 fn movable<'a>(
     relations: &'a [u8; PAIRS],

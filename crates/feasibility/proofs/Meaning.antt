@@ -1,5 +1,5 @@
 -- What the test says where its arguments stand for a plan and a variant: the timetable is a session of the variant.
-use Prim.Native.Nat.{ℕ, zero, suc, _+_, _≤_, _<_}
+use Prim.Native.Nat.{ℕ, _+_, _≤_, _<_}
 use mathlib.Core.Bool.{Bool, true, false, not, Bool·beq, _&&_, _||_}
 use mathlib.Core.List.{List}
 use mathlib.Core.Logic.{_≢_, _⊎_, inl, inr, ⊎-elim}
@@ -17,7 +17,7 @@ use Rattle.schedule.specs.Project.{Project}
 use Rattle.schedule.specs.Schedule.{Starts, endOf, feasible}
 use Rattle.schedule.specs.Sessions.{startsOf}
 use Rattle.base.proofs.Bools.{true-not-false, same-bool, both, and-left, and-right}
-use Rattle.base.proofs.Below.{implies-elim, implies-intro, every-at, every-of}
+use Rattle.base.proofs.Below.{implies-elim, implies-intro, every-at, every-of, every-same}
 use Rattle.schedule.proofs.Load.{Has}
 use Rattle.schedule.specs.Words.{InWords}
 use Rattle.variant.specs.Project.{projectOf}
@@ -27,11 +27,6 @@ use Rattle.variant.proofs.Instance.{resourceOf, acts-between, feasible-words, h
 use Rattle.feasibility.specs.Model.{markRight, marksRight, endsBy, apart, agree, placeRight, placesRight}
 use Rattle.variant.specs.declared.Variant.{Variant}
 use Rattle.variant.specs.Tables.{IsVariant}
-
-every-same : (n : ℕ) (f g : ℕ → Bool) → ((i : ℕ) → i < n → f i ≡ g i) → everyBelow n f ≡ everyBelow n g
-unfolding everyBelow
-every-same zero f g h = refl
-every-same (suc n) f g h = ap₂ _&&_ (every-same n f g (λ i l. h i (omega arith))) (h n (omega arith))
 
 -- One of two tests, as one of two facts.
 or-cases : (a b : Bool) → (a || b) ≡ true → (a ≡ true) ⊎ (b ≡ true)

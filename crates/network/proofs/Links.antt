@@ -18,7 +18,7 @@ use Rattle.sets.proofs.Laws.{has-none, has-and, has-xor, has-with, has-without}
 use Rattle.sets.specs.Sets.{most, has}
 use Rattle.sets.proofs.Members.{lowest-is, lowest-below, lowest-has, after-less, after-has}
 use Rattle.sets.specs.Lowest.{lowestOf, afterLowest}
-use Rattle.network.specs.Network.{predsAt, nextAt, nearAt, Between, predsFrom, nextFrom, nearFrom, capCell}
+use Rattle.network.specs.Network.{predsAt, nextAt, nearAt, Between, predsFrom, nextFrom, nearFrom, onFrom}
 use Rattle.network.specs.Network.{words}
 use Rattle.network.specs.Steps.{Nearest, LinkedNext, Blank, Links}
 
@@ -170,7 +170,7 @@ pub record Linking (t : List ℕ) (n : ℕ) (l : List ℕ) : Type 0 where
   pub next : (i j : ℕ) → i < most → j < most → has (nextAt l i) j ≡ has (nearAt l j) i
   pub none : (j : ℕ) → n ≤ j → j < most → nearAt l j ≡ 0
   pub before : (at : ℕ) → at < nextFrom → getD l at 0 ≡ getD t at 0
-  pub behind : (at : ℕ) → capCell ≤ at → getD l at 0 ≡ getD t at 0
+  pub behind : (at : ℕ) → onFrom ≤ at → getD l at 0 ≡ getD t at 0
 
 pub linking-none : (acts : ℕ) (t : List ℕ) → Blank acts t → Linking t 0 t
 linking-none acts t h =

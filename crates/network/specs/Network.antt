@@ -1,17 +1,17 @@
--- The table of one variant: a word for each activity and each of four columns, then the cap, the variant's number and
--- the number of the plan's activities.
+-- The table of one variant: a word for each activity and each of four columns, a set for each resource, then the cap,
+-- the variant's number, the number of the plan's activities and a link to the orders of the same activities.
 use Prim.Native.Nat.{ℕ, _+_, _*_, _^_, _<_, _/_, _%_}
 use mathlib.Core.Bool.{true, false}
 use mathlib.Core.List.{List}
 use mathlib.Core.Path.{_≡_}
 use lib.ListN.{getD}
-use Rattle.plan.specs.Limits.{packing}
+use lib.Dec.{eqb}
+use Rattle.plan.specs.Limits.{packing, mostResources}
 use Rattle.sets.specs.Sets.{most, has, width}
 use Rattle.variant.specs.declared.Variant.{Variant}
 use Rattle.variant.specs.Tables.{entryIn}
-use Rattle.variant.proofs.Tables.{preds-low}
 
--- Where the columns begin but the first, and the three cells behind them.
+-- Where the columns begin but the first, and what stands behind them.
 abbrev pub predsFrom : ℕ
 predsFrom = width
 
@@ -21,8 +21,11 @@ nextFrom = 2 * width
 abbrev pub nearFrom : ℕ
 nearFrom = 3 * width
 
+abbrev pub onFrom : ℕ
+onFrom = 4 * width
+
 abbrev pub capCell : ℕ
-capCell = 4 * width
+capCell = onFrom + mostResources
 
 abbrev pub variantCell : ℕ
 variantCell = capCell + 1
@@ -30,9 +33,12 @@ variantCell = capCell + 1
 abbrev pub actsCell : ℕ
 actsCell = capCell + 2
 
+abbrev pub linkCell : ℕ
+linkCell = capCell + 3
+
 -- The length of the table.
 abbrev pub words : ℕ
-words = capCell + 3
+words = capCell + 4
 
 -- The duration and the resource of i as one number.
 abbrev pub packedAt : List ℕ → ℕ → ℕ
@@ -56,6 +62,10 @@ nextAt t i = getD t (nextFrom + i) 0
 abbrev pub nearAt : List ℕ → ℕ → ℕ
 nearAt t i = getD t (nearFrom + i) 0
 
+-- Those on resource r.
+abbrev pub onAt : List ℕ → ℕ → ℕ
+onAt t r = getD t (onFrom + r) 0
+
 abbrev pub capOf : List ℕ → ℕ
 capOf t = getD t capCell 0
 
@@ -64,6 +74,14 @@ variantOf t = getD t variantCell 0
 
 abbrev pub actsOf : List ℕ → ℕ
 actsOf t = getD t actsCell 0
+
+abbrev pub linkOf : List ℕ → ℕ
+linkOf t = getD t linkCell 0
+
+-- The sets of the resources are right.
+pub record Grouped (t : List ℕ) : Type 0 where
+  pub low : (r : ℕ) → r < mostResources → onAt t r < 2 ^ most
+  pub on : (r i : ℕ) → r < mostResources → i < most → has (onAt t r) i ≡ eqb (resourceAt t i) r
 
 -- A predecessor that is not a nearest one precedes another predecessor.
 pub record Between (t : List ℕ) (j k : ℕ) : Type 0 where
@@ -81,11 +99,13 @@ pub record Linked (t : List ℕ) : Type 0 where
   pub next : (i j : ℕ) → i < most → j < most → has (nextAt t i) j ≡ has (nearAt t j) i
 
 -- The table of the variant x in tables.
-pub record Network (x : Variant) (number cap : ℕ) (t : List ℕ) : Type 0 where
+pub record Network (x : Variant) (number cap link : ℕ) (t : List ℕ) : Type 0 where
   pub packed :
       (i : ℕ) → i < width → packedAt t i ≡ packing * entryIn x (x .duration) i + entryIn x (x .resource) i
   pub befores : (i : ℕ) → i < width → predsAt t i ≡ entryIn x (x .preds) i
   pub linked : Linked t
+  pub grouped : Grouped t
   pub capped : capOf t ≡ cap
   pub number-is : variantOf t ≡ number
   pub many : actsOf t ≡ x .acts
+  pub linked-to : linkOf t ≡ link

@@ -7,18 +7,19 @@ use lib.Bits.{bitOr}
 use lib.ListN.{length, getD}
 use Rattle.plan.specs.Limits.{packing}
 use Rattle.sets.specs.Sets.{most, has, width}
-use Rattle.network.specs.Network.{packedAt, predsAt, nextAt, Linked, nextFrom, nearFrom, capCell, words}
+use Rattle.network.specs.Network.{packedAt, predsAt, nextAt, Linked, nextFrom, nearFrom, onFrom}
+use Rattle.network.specs.Network.{words, Grouped}
 use Rattle.variant.specs.declared.Variant.{Variant}
 use Rattle.variant.specs.Tables.{entryIn}
-use Rattle.variant.proofs.Tables.{few, preds-low}
 
--- The first two columns of the variant x, and 0 behind them.
+-- The first two columns of the variant x and the sets of the resources, and 0 between them.
 pub record Columns (x : Variant) (t : List ℕ) : Type 0 where
   pub size : length t ≡ words
   pub packed :
       (i : ℕ) → i < width → packedAt t i ≡ packing * entryIn x (x .duration) i + entryIn x (x .resource) i
   pub befores : (i : ℕ) → i < width → predsAt t i ≡ entryIn x (x .preds) i
-  pub blank : (at : ℕ) → nextFrom ≤ at → getD t at 0 ≡ 0
+  pub grouped : Grouped t
+  pub blank : (at : ℕ) → nextFrom ≤ at → at < onFrom → getD t at 0 ≡ 0
 
 -- A part of a set such that each member left out precedes another member.
 pub record Nearest (t : List ℕ) (set r : ℕ) : Type 0 where
@@ -41,10 +42,10 @@ pub record Blank (acts : ℕ) (t : List ℕ) : Type 0 where
   pub few : acts ≤ most
   pub preds-low : (i : ℕ) → i < most → predsAt t i < 2 ^ most
   pub preds-none : (i : ℕ) → acts ≤ i → i < most → predsAt t i ≡ 0
-  pub blank : (at : ℕ) → nextFrom ≤ at → at < capCell → getD t at 0 ≡ 0
+  pub blank : (at : ℕ) → nextFrom ≤ at → at < onFrom → getD t at 0 ≡ 0
 
 -- The same table with its last two columns.
 pub record Links (t r : List ℕ) : Type 0 where
   pub linked : Linked r
   pub before : (at : ℕ) → at < nextFrom → getD r at 0 ≡ getD t at 0
-  pub behind : (at : ℕ) → capCell ≤ at → getD r at 0 ≡ getD t at 0
+  pub behind : (at : ℕ) → onFrom ≤ at → getD r at 0 ≡ getD t at 0

@@ -5,31 +5,35 @@ use sets::after_lowest;
 use sets::lowest;
 use variant::Variant;
 ghost use mathlib.Core.Path.{_≡_};
-ghost use Prim.Native.Nat.{_+_, _*_, _/_, _%_, _^_, _≤_, _<_};
-ghost use Rattle.plan.specs.Limits.{packing};
+ghost use Prim.Native.Nat.{ℕ, _+_, _*_, _/_, _%_, _^_, _≤_, _<_};
+ghost use Rattle.plan.specs.Limits.{packing, mostResources};
 ghost use lib.ListN.{length};
 ghost use Rattle.sets.specs.Sets.{most};
-ghost use Rattle.variant.specs.Tables.{Tabled};
+ghost use Rattle.variant.specs.Tables.{Tabled, entryIn};
 ghost use Rattle.network.specs.Network.{Network, words};
 ghost use Rattle.network.specs.Steps.{Columns, Nearest, LinkedNext, Blank, Links};
 ghost use Rattle.variant.specs.declared.Variant.{Variant};
 
 // Where the columns begin: the predecessors of each activity, those that have it as a nearest predecessor, and its
 // nearest predecessors, which precede no other of its predecessors. The first column has the duration and the
-// resource as one word.
+// resource as one word. Behind the columns stands for each resource the set of those on it.
 pub const PREDS: usize = WIDTH;
 
 pub const NEXT: usize = 2 * WIDTH;
 
 pub const NEAR: usize = 3 * WIDTH;
 
-pub const CAP: usize = 4 * WIDTH;
+pub const ON: usize = 4 * WIDTH;
+
+pub const CAP: usize = ON + MOST_RESOURCES as usize;
 
 pub const VARIANT: usize = CAP + 1;
 
 pub const ACTS: usize = CAP + 2;
 
-pub const WORDS: usize = CAP + 3;
+pub const LINK: usize = CAP + 3;
+
+pub const WORDS: usize = CAP + 4;
 
 pub type Table = [u32; WORDS];
 
@@ -54,17 +58,22 @@ pub fn resource_of(word: u32) -> usize
     (word % PACKING) as usize
 }
 
-// The columns of work and of predecessors.
+// The columns of work and of predecessors, and the sets of those on each resource. What is past the plan's activities
+// stands on resource 0, as the first column has it.
 fn filled(x: Variant) -> Table
-    requires { ⌜ x .acts ≤ most ⌝ }
+    requires { ⌜ (x .acts ≤ most) × ((i : ℕ) → entryIn x (x .resource) i < mostResources) ⌝ }
     ensures { λ r. ⌜ Columns x r ⌝ }
 {
     let mut table = [0; WORDS];
+    table[ON] = sets::EVERY;
     let acts = x.acts;
     let mut i = 0;
     while i < acts {
+        let r = x.resource[i] as usize;
         table[i] = packed(x.duration[i], x.resource[i]);
         table[PREDS + i] = x.preds[i];
+        table[ON] = sets::without(table[ON], i);
+        table[ON + r] = sets::union(table[ON + r], sets::single(i));
         i += 1;
     }
     table
@@ -113,16 +122,17 @@ fn link_all(table: &mut Table, acts: usize)
     }
 }
 
-// The table of the variant with that number.
-pub fn network(x: Variant, number: u32, cap: u32) -> Table
+// The table of the variant with that number; `link` is where the orders of its activities begin.
+pub fn network(x: Variant, number: u32, cap: u32, link: u32) -> Table
     requires { ⌜ Tabled x number ⌝ }
-    ensures { λ r. ⌜ Network x number cap r ⌝ }
+    ensures { λ r. ⌜ Network x number cap link r ⌝ }
 {
     let mut table = filled(x);
     let acts = x.acts;
     table[CAP] = cap;
     table[VARIANT] = number;
     table[ACTS] = acts as u32;
+    table[LINK] = link;
     link_all(&mut table, acts);
     table
 }

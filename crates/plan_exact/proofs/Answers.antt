@@ -6,13 +6,14 @@ use mathlib.Core.Path.{_≡_, sym, ap, ap₂, _∙_}
 use mathlib.Core.List.{List, _∷_, List·Memᴰ, Memᴰ·of-map, List-discrete, Perm·mem-iff}
 use lib.ListN.{length, take}
 use Rattle.base.specs.Order.{isBefore, NotAfter}
-use Rattle.base.proofs.Lists.{gather-is, mem-found}
+use Rattle.base.proofs.Lists.{keep-is, gather-is, mem-found}
 use Rattle.base.proofs.Order.{first-low, rest-after, not-after-front}
 use Rattle.plan.specs.Plan.{Plan}
 use Rattle.term.specs.Term.{Term}
 use Rattle.term.specs.Variants.{variantCount}
 use Rattle.timetable.specs.Mark.{places}
 use Rattle.scan.specs.Model.{starts, scanOf, problemOf, lastEnd}
+use Rattle.scan.specs.Union.{isNewIn, newOf}
 use Rattle.scan.proofs.Starts.{starts-front}
 use Rattle.variant.specs.Pairs.{pairs, pairCount}
 use Rattle.term.specs.Valid.{Valid}
@@ -23,7 +24,8 @@ use Rattle.variant.proofs.Instance.{acts-between}
 use Rattle.plan_exact.proofs.Variant.{chosen}
 use Rattle.plan_exact.proofs.Found.{variant-session, variant-span, variant-marked}
 use Rattle.plan_exact.proofs.Pairs.{pair-mem}
-use Rattle.plan_exact.proofs.Rows.{HeldEach, rowsOf, allRows, rows-perm}
+use Rattle.plan_exact.proofs.Union.{HeldEach, new-is}
+use Rattle.plan_exact.proofs.Rows.{rowsOf, allRows, rows-perm}
 use Rattle.plan_exact.proofs.Shortest.{First, first-unique, first-shortest}
 use Rattle.variant.specs.declared.Variant.{Variant}
 
@@ -31,11 +33,15 @@ use Rattle.variant.specs.declared.Variant.{Variant}
 abbrev pub ranked : (ℕ → Variant) → ℕ → List ℕ → List ℕ
 ranked x v ends = lastEnd ends ∷ v ∷ starts (problemOf (x v)) places ends
 
--- Ends that the search finds for variant v, and none that it finds for any variant rank before them.
+-- What counts for a variant is found for it.
+pub new-found : (x : ℕ → Variant) (v : ℕ) (ends : List ℕ) → List·Memᴰ ends (newOf x v) → List·Memᴰ ends (scanOf (x v))
+new-found x v ends m = keep-is (isNewIn x v) (scanOf (x v)) m .0
+
+-- Ends that count for variant v, and none that count for any variant rank before them.
 pub record Earliest (t : Term) (x : ℕ → Variant) (v : ℕ) (ends : List ℕ) : Type 0 where
   pub below : v < variantCount t
-  pub found : List·Memᴰ ends (scanOf (x v))
-  pub first : (u : ℕ) (other : List ℕ) → u < variantCount t → List·Memᴰ other (scanOf (x u))
+  pub found : List·Memᴰ ends (newOf x v)
+  pub first : (u : ℕ) (other : List ℕ) → u < variantCount t → List·Memᴰ other (newOf x u)
       → NotAfter (ranked x v ends) (ranked x u other)
 
 module _ (p : Plan) (t : Term) (valid : Valid p t) (x : ℕ → Variant) (held : HeldEach p t x) where
@@ -48,19 +54,19 @@ module _ (p : Plan) (t : Term) (valid : Valid p t) (x : ℕ → Variant) (held :
   abbrev row : ℕ → List ℕ → List ℕ
   row v ends = v ∷ starts (problemOf (x v)) N ends
 
-  span-is : (v : ℕ) → v < variantCount t → (ends : List ℕ) → List·Memᴰ ends (scanOf (x v))
+  span-is : (v : ℕ) → v < variantCount t → (ends : List ℕ) → List·Memᴰ ends (newOf x v)
       → lastEnd ends ≡ rowSpan p t (row v ends)
-  span-is v l = variant-span p t v (chosen p t v valid l) (x v) (held v l)
+  span-is v l ends m = variant-span p t v (chosen p t v valid l) (x v) (held v l) ends (new-found x v ends m)
 
   -- Every pair is a row of what the search finds.
   row-of : (other : List ℕ) → List·Memᴰ other (pairs p t)
-      → (u : ℕ) × (u < variantCount t) × (ends : List ℕ) × List·Memᴰ ends (scanOf (x u)) × (row u ends ≡ other)
+      → (u : ℕ) × (u < variantCount t) × (ends : List ℕ) × List·Memᴰ ends (newOf x u) × (row u ends ≡ other)
   row-of other m =
       let found =
       mem-found (List-discrete ℕ-discrete) other (allRows p t x) (Perm·mem-iff (rows-perm p t valid x held) .1 ∣ m ∣₁)
       in
       let (u, l, n) = gather-is (variantCount t) (rowsOf N x) found in
-      let (ends, k, e) = Memᴰ·of-map (row u) (scanOf (x u)) n in
+      let (ends, k, e) = Memᴰ·of-map (row u) (newOf x u) n in
       (u, l, ends, k, e)
 
   front : (v : ℕ) (ends : List ℕ) → take (suc N) (full v ends) ≡ row v ends
@@ -73,9 +79,13 @@ module _ (p : Plan) (t : Term) (valid : Valid p t) (x : ℕ → Variant) (held :
     earliest-first : First p t (row v ends)
     earliest-first =
         let c = chosen p t v valid (earliest .below) in
-        let listed = variant-session p t v c (x v) (held v (earliest .below)) ends (earliest .found) in
+        let (m, new) = keep-is (isNewIn x v) (scanOf (x v)) (earliest .found) in
+        let listed = variant-session p t v c (x v) (held v (earliest .below)) ends m in
+        let first = sym (new-is p t valid x held v (earliest .below) ends m) ∙ new in
         record {
-          one-of = pair-mem p t v (starts (problemOf (x v)) N ends) (record { below = earliest .below; session = listed });
+          one-of =
+              pair-mem p t v (starts (problemOf (x v)) N ends)
+              (record { below = earliest .below; session = listed; new = first });
           least =
               λ other m.
               let (u, l, ends′, k, e) = row-of other m in
@@ -108,5 +118,6 @@ module _ (p : Plan) (t : Term) (valid : Valid p t) (x : ℕ → Variant) (held :
         let same : row v ends ≡ firstShortest p t =
         first-unique p t (row v ends) (firstShortest p t) earliest-first (first-shortest p t valid) in
         let told = answer ∙ ap (λ (n : ℕ). Found v n (pairCount p t)) own in
-        let marked = timetable ∙ variant-marked p t v c (x v) (held v (earliest .below)) ends (earliest .found) in
+        let marked = timetable ∙ variant-marked p t v c (x v) (held v (earliest .below)) ends
+        (new-found x v ends (earliest .found)) in
         (λ i. record { answer = told i; timetable = record { starts = marked i } }) ∙ ap (bestRow p t) same

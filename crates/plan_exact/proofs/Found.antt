@@ -63,15 +63,15 @@ module _ (p : Plan) (t : Term) (v : ℕ) (c : HasVariant p t v) (x : Variant) (h
           (found-session P (resourceOf p) benched q (x .present) given (before P) (ranked p t v c) (starts q N ends)
           (Memᴰ·map (starts q N) m))
 
-      leaf : Leaf P (resourceOf p) q (x .present) ends
-      leaf = scanned-leaf P (resourceOf p) benched q (x .present) given (before P) (ranked p t v c) ends m
+      pub variant-leaf : Leaf P (resourceOf p) q (x .present) ends
+      variant-leaf = scanned-leaf P (resourceOf p) benched q (x .present) given (before P) (ranked p t v c) ends m
 
       room : P .size ≤ places
       room = given .small
 
       pub variant-span : lastEnd ends ≡ makespan P (startsOf (starts q N ends))
       unfolding projectOf
-      variant-span = leaf-makespan P (resourceOf p) benched q (x .present) given ends leaf N (omega arith)
+      variant-span = leaf-makespan P (resourceOf p) benched q (x .present) given ends variant-leaf N (omega arith)
 
       -- It ends by the sum of the durations.
       variant-early : lastEnd ends ≤ work P
@@ -99,7 +99,7 @@ module _ (p : Plan) (t : Term) (v : ℕ) (c : HasVariant p t v) (x : Variant) (h
           (λ i l.
           let b : N + i < places = omega (arith, length-drop N full, starts-length q ends places) in
           getD-drop N full i 0
-          ∙ leaf-marked P (resourceOf p) benched q (x .present) given ends leaf places room (N + i) b
+          ∙ leaf-marked P (resourceOf p) benched q (x .present) given ends variant-leaf places room (N + i) b
           (given .beyond (N + i) (unfold projectOf in omega arith))
           ∙ sym (getD-replicate (places - N) i mark 0 (omega arith)))
           in

@@ -1,6 +1,7 @@
 -- From the search of each variant to the plan as a whole.
 pub mod Variant
 pub mod Found
+pub mod Union
 pub mod Pairs
 pub mod Rows
 pub mod Shortest

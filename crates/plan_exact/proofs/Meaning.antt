@@ -1,12 +1,13 @@
--- The listing in the words of the paper: its rows are exactly the active sessions of the variants, each before all that
--- follow it. The row that BEST answers is the first shortest of them.
+-- The listing in the words of the paper: its rows are exactly the active sessions of the variants, each once, under the
+-- lowest variant that has it, and before all that follow it. The row that BEST answers is the first shortest of them.
 use Prim.Native.Nat.{ℕ, suc, _<_}
-use native.Mathlib.Decide.{ℕ-discrete}
+use native.Mathlib.Decide.{ℕ-discrete, decLt}
 use native.Mathlib.Omega.{arith}
-use mathlib.Core.Bool.{Bool, true, false}
-use mathlib.Core.List.{List, _∷_, _++_, map, List·Mem, List·Memᴰ, Memᴰ·of-map, Memᴰ·cast, List-discrete}
-use mathlib.Core.List.{Pairwise·imp-of-mem}
-use mathlib.Core.Logic.{by-cases, inl, inr}
+use mathlib.Core.Bool.{Bool, true, false, not}
+use mathlib.Core.HLevel.{¬-prop}
+use mathlib.Core.List.{List, _∷_, _++_, map, List·Mem, List·Memᴰ, Memᴰ·map, Memᴰ·of-map, Memᴰ·cast, List-discrete}
+use mathlib.Core.List.{Pairwise·imp-of-mem, Pairwise·map′}
+use mathlib.Core.Logic.{_≢_, by-cases, inl, inr}
 use mathlib.Core.Path.{_≡_, refl, sym, ap, ap₂, subst, _∙_}
 use lib.Dec.{leb}
 use lib.ListN.{length, drop}
@@ -17,32 +18,34 @@ use Rattle.plan.specs.declared.Refusal.{Refusal}
 use Rattle.term.specs.Term.{Term}
 use Rattle.term.specs.Variants.{variantCount, activities, member}
 use Rattle.timetable.specs.Mark.{mark}
-use Rattle.base.specs.Lists.{cellsOf}
+use Rattle.base.specs.Lists.{isOneOf, cellsOf}
 use Rattle.base.specs.Order.{isBefore, Before}
-use Rattle.base.proofs.Bools.{by-bool}
-use Rattle.base.proofs.Lists.{gather-is, mem-found, cells-length}
-use Rattle.base.proofs.Order.{same-first, other-first, differ-before, Smaller, before-smaller, ordered-nodup}
+use Rattle.base.proofs.Below.{every-at, every-of}
+use Rattle.base.proofs.Bools.{by-bool, true-not-false}
+use Rattle.base.proofs.Lists.{one-of-is, one-of, mem-found, cells-length}
+use Rattle.base.proofs.Order.{same-first, other-first, not-self, differ-before, Smaller, before-smaller}
 use Rattle.schedule.specs.Project.{Project}
 use Rattle.schedule.specs.Schedule.{moved}
-use Rattle.schedule.specs.Sessions.{sessions, startsOf}
+use Rattle.schedule.specs.Sessions.{startsOf}
 use Rattle.schedule.proofs.Reflect.{Active, feasible-is, feasible-of}
 use Rattle.schedule.proofs.Box as box
 use Rattle.variant.specs.Project.{variantAt, projectOf}
 use Rattle.term.specs.Valid.{HasVariant, Valid}
 use Rattle.variant.proofs.RoundTrip.{variant-below}
 use Rattle.variant.proofs.Instance.{sound, has-of, has-member}
-use Rattle.variant.specs.Pairs.{pairs, pairCount}
-use Rattle.variant.specs.Words.{Present, MarksAbsent, ActiveSession, Sooner}
+use Rattle.variant.specs.Pairs.{sessionsOf, isNew, pairs, pairCount}
+use Rattle.variant.specs.Words.{Present, ActiveSession, Sooner}
 use Rattle.variant.proofs.Words.{keeps-is, keeps-of}
 use Rattle.judge.specs.Judge.{Verdict, judge, accepts, refuses}
 use Rattle.judge.proofs.Accepts.{accepted-valid}
 use Rattle.answers.specs.Listed.{cellsNeeded, listWithin, listBy, listOf}
-use Rattle.answers.specs.Shortest.{firstShortest}
-use Rattle.answers.specs.Words.{IsRow, StandsBefore, Listing, ListingOf, FirstShortest}
+use Rattle.answers.specs.Shortest.{rowStarts, firstShortest}
+use Rattle.answers.specs.Words.{ActiveForSome, IsRow, StandsBefore, Listing, ListingOf, FirstShortest}
 use Rattle.answers.specs.declared.ListAnswer.{ListAnswer}
 use Rattle.answers.specs.declared.ListAnswer.the-variants.{Listed, Refused}
-use Rattle.plan_exact.proofs.Variant.{chosen, box-unmarked}
-use Rattle.plan_exact.proofs.Pairs.{pair-mem}
+use Rattle.plan_exact.proofs.Variant.{chosen}
+use Rattle.plan_exact.proofs.Union.{session-marks, Lowest, lowest}
+use Rattle.plan_exact.proofs.Pairs.{Pair, row-pair, pair-mem}
 use Rattle.plan_exact.proofs.Rows.{pairs-ordered}
 use Rattle.plan_exact.proofs.Shortest.{First, first-shortest}
 
@@ -57,30 +60,13 @@ module _ (p : Plan) (t : Term) (v : ℕ) (c : HasVariant p t v) (row : List ℕ)
   inside : (i : ℕ) → Present w i → i < length (p .activities)
   inside = variant-below p t v c
 
-  -- The box has no start as late as the mark.
-  marks : List·Memᴰ row (sessions P mark) → MarksAbsent w (length (p .activities)) row
-  unfolding projectOf
-  marks m i l = (
-    λ e.
-        by-bool
-        (member i (activities w))
-        (λ y. absurd (omega (
-          arith,
-          e,
-          box.session-unmarked P mark row m (box-unmarked p w (c .valid .ranges)) i
-              (has-of p w i l y),
-        )))
-        (λ z. z),
-    λ z. box.session-is P mark row m .marked i l z,
-  )
-
-  session-words : List·Memᴰ row (sessions P mark) → ActiveSession p w row
+  session-words : List·Memᴰ row (sessionsOf p t v) → ActiveSession p w row
   unfolding projectOf
   session-words m =
       let s = box.session-is P mark row m in
       record {
         long = s .long;
-        marks = marks m;
+        marks = session-marks p t v c row m;
         keeps =
             keeps-is p w (c .valid .ranges) inside (startsOf row)
             (feasible-of P (startsOf row) (s .is-active .is-feasible));
@@ -102,7 +88,7 @@ module _ (p : Plan) (t : Term) (v : ℕ) (c : HasVariant p t v) (row : List ℕ)
             (feasible-of P (moved (startsOf row) j t) f));
       }
 
-  session-listed : ActiveSession p w row → List·Memᴰ row (sessions P mark)
+  session-listed : ActiveSession p w row → List·Memᴰ row (sessionsOf p t v)
   unfolding projectOf
   session-listed a =
       box.session-mem P mark row (sound p (c .valid .ranges) w)
@@ -130,27 +116,93 @@ sooner w a b r s h =
 
 -- The pairs of a plan.
 module _ (p : Plan) (t : Term) (valid : Valid p t) where
-  abbrev rowsOf : ℕ → List (List ℕ)
-  rowsOf v = map (v ∷_) (sessions (projectOf p (variantAt t v)) mark)
+  at : (v : ℕ) → v < variantCount t → HasVariant p t v
+  at v l = chosen p t v valid l
+
+  -- No lower variant has a new session.
+  none-lower : (v : ℕ) (ss : List ℕ) → isNew p t v ss ≡ true → (u : ℕ) → u < v → List·Memᴰ ss (sessionsOf p t u) → ⊥
+  unfolding isNew
+  none-lower v ss new u l m =
+      true-not-false (every-at v (λ k. not (isOneOf ss (sessionsOf p t k))) new u l)
+      (ap not (one-of ss (sessionsOf p t u) m))
+
+  new-of : (v : ℕ) (ss : List ℕ) → ((u : ℕ) → u < v → List·Memᴰ ss (sessionsOf p t u) → ⊥) → isNew p t v ss ≡ true
+  unfolding isNew
+  new-of v ss none =
+      every-of v (λ u. not (isOneOf ss (sessionsOf p t u)))
+      (λ u l.
+      by-bool
+      (isOneOf ss (sessionsOf p t u))
+      (λ y. absurd (none u l (one-of-is ss (sessionsOf p t u) y)))
+      (λ z. ap not z))
 
   is-row : (row : List ℕ) → List·Memᴰ row (pairs p t) → IsRow p t row
-  unfolding pairs
   is-row row m =
-      let (v, l, k) = gather-is (variantCount t) rowsOf m in
-      let (starts, n, e) = Memᴰ·of-map (v ∷_) (sessions (projectOf p (variantAt t v)) mark) k in
+      let (v, ss, e, pair) = row-pair p t row m in
       record {
         variant = v;
-        starts = starts;
+        starts = ss;
         whole = sym e;
-        below = l;
-        session = session-words p t v (chosen p t v valid l) starts n;
+        below = pair .below;
+        session = session-words p t v (at v (pair .below)) ss (pair .session);
+        lowest =
+            λ u l s.
+            none-lower v ss (pair .new) u l (session-listed p t u (at u (omega (arith, pair .below))) ss s);
       }
 
   row-is : (row : List ℕ) → IsRow p t row → List·Memᴰ row (pairs p t)
   row-is row r =
-      let listed =
-      session-listed p t (r .variant) (chosen p t (r .variant) valid (r .below)) (r .starts) (r .session) in
-      Memᴰ·cast (r .whole) (pair-mem p t (r .variant) (r .starts) (record { below = r .below; session = listed }))
+      let v : ℕ = r .variant in
+      let ss : List ℕ = r .starts in
+      Memᴰ·cast (r .whole)
+      (pair-mem p t v ss
+      (record {
+        below = r .below;
+        session = session-listed p t v (at v (r .below)) ss (r .session);
+        new =
+            new-of v ss
+            (λ u l m. r .lowest u l (session-words p t u (at u (omega (arith, r .below))) ss m));
+      }))
+
+  -- The union over the variants.
+  some-active : (ss : List ℕ) → List·Memᴰ ss (map rowStarts (pairs p t)) → ActiveForSome p t ss
+  some-active ss m =
+      let (row, n, e) = Memᴰ·of-map rowStarts (pairs p t) m in
+      let (v, own, whole, pair) = row-pair p t row n in
+      let same : own ≡ ss = ap rowStarts whole ∙ e in
+      record {
+        variant = v;
+        below = pair .below;
+        session =
+            subst (ActiveSession p (variantAt t v)) same
+            (session-words p t v (at v (pair .below)) own (pair .session));
+      }
+
+  active-listed : (ss : List ℕ) → ActiveForSome p t ss → List·Memᴰ ss (map rowStarts (pairs p t))
+  active-listed ss a =
+      let low : Lowest p t valid (a .variant) ss =
+      lowest p t valid (a .variant) ss (session-listed p t (a .variant) (at (a .variant) (a .below)) ss (a .session)) in
+      let pair : Pair p t (low .variant) ss =
+      record { below = omega (arith, low .low, a .below); session = low .session; new = low .new } in
+      Memᴰ·map rowStarts (pair-mem p t (low .variant) ss pair)
+
+  -- Two rows with one session: the one with the lower variant has it already.
+  starts-differ : (a b : List ℕ) → List·Memᴰ a (pairs p t) → List·Memᴰ b (pairs p t) → Before a b
+      → rowStarts a ≢ rowStarts b
+  starts-differ a b m n h e =
+      let (v, r, ea, pair) = row-pair p t a m in
+      let (u, s, eb, other) = row-pair p t b n in
+      let same : r ≡ s = ap rowStarts ea ∙ e ∙ sym (ap rowStarts eb) in
+      by-cases
+      (ℕ-discrete v u)
+      (λ q.
+      true-not-false (ap₂ isBefore ea eb ∙ h)
+      (ap₂ (λ (k : ℕ) (l : List ℕ). isBefore (v ∷ r) (k ∷ l)) (sym q) (sym same) ∙ not-self (v ∷ r)))
+      (λ ne.
+      by-cases
+      (decLt v u)
+      (λ l. none-lower u s (other .new) v l (Memᴰ·cast (sym same) (pair .session)))
+      (λ g. none-lower v r (pair .new) u (omega arith) (Memᴰ·cast same (other .session))))
 
   -- Before by all cells is before by the variant and its own activities: the others have the mark in both.
   before-words : (a b : List ℕ) → IsRow p t a → IsRow p t b → Before a b → StandsBefore t a b
@@ -177,7 +229,10 @@ module _ (p : Plan) (t : Term) (valid : Valid p t) where
             Pairwise·imp-of-mem
             (λ a b m n h. before-words a b (is-row a (known a m)) (is-row b (known b n)) h)
             (pairs-ordered p t);
-        once = ordered-nodup (pairs p t) (pairs-ordered p t);
+        union = λ ss. (some-active ss, active-listed ss);
+        once =
+            Pairwise·map′ {S = _≢_} rowStarts (λ a b. ¬-prop)
+            (Pairwise·imp-of-mem (λ a b m n h. starts-differ a b (known a m) (known b n) h) (pairs-ordered p t));
       }
     where
       known : (row : List ℕ) → List·Mem row (pairs p t) → List·Memᴰ row (pairs p t)

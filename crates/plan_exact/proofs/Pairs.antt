@@ -22,34 +22,47 @@ use Rattle.base.proofs.Below.{every-of}
 use Rattle.schedule.proofs.Load.{Has}
 use Rattle.schedule.proofs.Reflect.{feasible-of}
 use Rattle.schedule.proofs.Agree.{Agree, Feasible-agree, makespan-agree}
-use Rattle.base.proofs.Lists.{gather-is, gather-mem}
+use Rattle.base.specs.Lists.{keep}
+use Rattle.base.proofs.Lists.{keep-is, keep-mem, gather-is, gather-mem}
 use Rattle.schedule.proofs.Box.{SessionRow, session-is, session-unmarked}
 use Rattle.variant.specs.Project.{variantAt, projectOf}
 use Rattle.term.specs.Valid.{HasVariant, Valid}
 use Rattle.variant.proofs.RoundTrip.{variant-below}
 use Rattle.variant.proofs.Instance.{has-of, has-below}
-use Rattle.variant.specs.Pairs.{pairs}
+use Rattle.variant.specs.Pairs.{sessionsOf, isNew, pairs}
 use Rattle.variant.specs.Timetable.{timetableOf, isMarked, isSession}
 use Rattle.plan_exact.proofs.Variant.{chosen, box-unmarked}
 
--- A variant of the plan and a session of it.
+-- A variant of the plan and a session of it that no lower one has.
 pub record Pair (p : Plan) (t : Term) (v : ℕ) (ss : List ℕ) : Type 0 where
   pub below : v < variantCount t
-  pub session : List·Memᴰ ss (sessions (projectOf p (variantAt t v)) mark)
+  pub session : List·Memᴰ ss (sessionsOf p t v)
+  pub new : isNew p t v ss ≡ true
 
-pub pair-is : (p : Plan) (t : Term) (v : ℕ) (ss : List ℕ) → List·Memᴰ (v ∷ ss) (pairs p t) → Pair p t v ss
-unfolding pairs
-pair-is p t v ss m =
-    let (u, l, k) = gather-is (variantCount t) (λ u. map (u ∷_) (sessions (projectOf p (variantAt t u)) mark)) m in
-    let (rest, n, e) = Memᴰ·of-map (u ∷_) (sessions (projectOf p (variantAt t u)) mark) k in
-    subst (λ (x : ℕ). Pair p t x ss) (head-eq-of-cons-eq e)
-    (subst (Pair p t u) (tail-eq-of-cons-eq e) (record { below = l; session = n }))
+module _ (p : Plan) (t : Term) where
+  abbrev listed : ℕ → List (List ℕ)
+  listed v = map (v ∷_) (keep (isNew p t v) (sessionsOf p t v))
 
-pub pair-mem : (p : Plan) (t : Term) (v : ℕ) (ss : List ℕ) → Pair p t v ss → List·Memᴰ (v ∷ ss) (pairs p t)
-unfolding pairs
-pair-mem p t v ss pair =
-    gather-mem (variantCount t) (λ u. map (u ∷_) (sessions (projectOf p (variantAt t u)) mark)) v (pair .below)
-    (Memᴰ·map (v ∷_) (pair .session))
+  -- Each of the pairs is a variant and its session.
+  pub row-pair : (row : List ℕ) → List·Memᴰ row (pairs p t)
+      → (v : ℕ) × (ss : List ℕ) × (v ∷ ss ≡ row) × Pair p t v ss
+  unfolding pairs
+  row-pair row m =
+      let (v, l, k) = gather-is (variantCount t) listed m in
+      let (ss, n, e) = Memᴰ·of-map (v ∷_) (keep (isNew p t v) (sessionsOf p t v)) k in
+      let (session, new) = keep-is (isNew p t v) (sessionsOf p t v) n in
+      (v, ss, e, record { below = l; session = session; new = new })
+
+  pub pair-is : (v : ℕ) (ss : List ℕ) → List·Memᴰ (v ∷ ss) (pairs p t) → Pair p t v ss
+  pair-is v ss m =
+      let (u, rest, e, pair) = row-pair (v ∷ ss) m in
+      subst (λ (x : ℕ). Pair p t x ss) (head-eq-of-cons-eq e) (subst (Pair p t u) (tail-eq-of-cons-eq e) pair)
+
+  pub pair-mem : (v : ℕ) (ss : List ℕ) → Pair p t v ss → List·Memᴰ (v ∷ ss) (pairs p t)
+  unfolding pairs
+  pair-mem v ss pair =
+      gather-mem (variantCount t) listed v (pair .below)
+      (Memᴰ·map (v ∷_) (keep-mem (isNew p t v) (sessionsOf p t v) (pair .session) (pair .new)))
 
 module _ (p : Plan) (t : Term) (v : ℕ) (c : HasVariant p t v) (ss : List ℕ)
     (m : List·Memᴰ ss (sessions (projectOf p (variantAt t v)) mark)) where

@@ -30,6 +30,7 @@ use Rattle.variant.specs.Project.{variantAt, projectOf}
 use Rattle.variant.specs.Pairs.{pairs, pairCount}
 use Rattle.variant.proofs.Instance.{one-unit, sound, unfixed, gapless}
 use Rattle.answers.specs.Shortest.{makespanIn, rowSpan, shortestPairs, firstShortest}
+use Rattle.plan_exact.proofs.Union.{Lowest, lowest, same-span}
 use Rattle.plan_exact.proofs.Pairs.{Pair, pair-is, pair-mem}
 use Rattle.plan_exact.proofs.Rows.{pairs-ordered, pairs-some}
 
@@ -97,7 +98,14 @@ module _ (p : Plan) (t : Term) (valid : Valid p t) where
         let Q : Project = projectOf p (variantAt t u) in
         let (row, s, e) = no-longer-session Q mark S (unfixed p (variantAt t u)) f in
         let listed = session-mem Q mark row (sound p (valid .ranges) (variantAt t u)) s in
-        omega (arith, first .least (u ∷ row) (pair-mem p t u row (record { below = l; session = listed })))
+        let low : Lowest p t valid u row = lowest p t valid u row listed in
+        let below : low .variant < variantCount t = omega (arith, low .low) in
+        omega (
+          arith,
+          first .least (low .variant ∷ row)
+              (pair-mem p t (low .variant) row (record { below = below; session = low .session; new = low .new })),
+          same-span p t valid (low .variant) u below l row (low .session) listed (startsOf row),
+        )
 
     -- It is between its variant's chains and loads and the sum of its durations.
     pub first-chains : (i : ℕ) (js : List ℕ) → Chain P i js → chainLength P i js ≤ makespan P (startsOf ss)

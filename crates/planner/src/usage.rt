@@ -19,15 +19,15 @@ fn put_plan_lines(fd: i32) -> bool {
 fn put_session_lines(fd: i32) -> bool {
     io::write_all(
         fd,
-        b"  planner count [CAP]    print how many active sessions the variants have together\n",
+        b"  planner count [CAP]    print how many active sessions the variants have together, each once\n",
     )
         && io::write_all(
             fd,
-            b"  planner list [CAP]     print them: the variant, then the start of each activity, - if absent,\n",
+            b"  planner list [CAP]     print them: the lowest variant that has it, then the start of each\n",
         )
         && io::write_all(
             fd,
-            b"                         in the order of these numbers\n",
+            b"                         activity, - if absent, in the order of these numbers\n",
         )
         && io::write_all(
             fd,

@@ -43,6 +43,29 @@ pub fn twice_under_x() -> [u8; 63] {
         nodes=3\nnode=x,2\nnode=a,0\nnode=a,0\n"
 }
 
+// x over two activities in both sequences and side by side, on one resource: three variants, two sessions.
+pub fn three_orders() -> [u8; 135] {
+    *b"plan=1\nres=1\nacts=2\n\
+        act=0,1\nact=0,2\n\
+        nodes=10\nnode=x,3\nnode=s,2\nnode=a,0\nnode=a,1\nnode=s,2\nnode=a,1\nnode=a,0\nnode=p,2\nnode=a,0\n\
+        node=a,1\n"
+}
+
+// x over two activities side by side and in sequence: the session in sequence is feasible for both variants, but active
+// for variant 1 alone.
+pub fn feasible_below() -> [u8; 107] {
+    *b"plan=1\nres=2\nacts=2\n\
+        act=0,1\nact=1,2\n\
+        nodes=7\nnode=x,2\nnode=p,2\nnode=a,0\nnode=a,1\nnode=s,2\nnode=a,0\nnode=a,1\n"
+}
+
+// x over two activities: sessions with equal starts of other activities.
+pub fn other_activities() -> [u8; 71] {
+    *b"plan=1\nres=1\nacts=2\n\
+        act=0,1\nact=0,1\n\
+        nodes=3\nnode=x,2\nnode=a,0\nnode=a,1\n"
+}
+
 // p over activity 0 twice.
 pub fn twice_under_p() -> [u8; 63] {
     *b"plan=1\nres=1\nacts=1\n\

@@ -1,2 +1,3 @@
 -- The search's model.
 pub mod Model
+pub mod Union

@@ -1,17 +1,18 @@
 -- The root shows that nothing is frozen, and freezing a choice shows its branch.
 use Prim.Native.Nat.{ℕ, _+_, _-_, _≤_, _<_}
-use native.Mathlib.Decide.{ℕ-discrete, decLt}
+use native.Mathlib.Decide.{ℕ-discrete}
 use native.Mathlib.Omega.{arith}
 use mathlib.Core.Bool.{Bool, true, false, not, cond, _&&_, and-true, and-false}
 use mathlib.Core.Path.{_≡_, refl, sym, ap, _∙_}
 use mathlib.Core.Logic.{_≢_, by-cases}
-use lib.ListN.{length, getD, replicate, length-set, length-replicate, getD-replicate, List·getD-eq-default}
+use lib.ListN.{length, getD, length-set, length-replicate}
 use lib.Seq.{getD-set-same, getD-set-other}
 use borrow.Author.Tests.{eq-eqb, ne-eqb}
 use Rattle.schedule.specs.Project.{Project}
 use Rattle.schedule.specs.Schedule.{Starts}
 use Rattle.base.proofs.Bools.{true-not-false, both, cond-true, cond-false}
 use Rattle.base.proofs.Below.{sum-le-but}
+use Rattle.base.proofs.Lists.{zeros}
 use Rattle.schedule.proofs.Load.{Has, moved-same, moved-other}
 use Rattle.schedule.proofs.OneUnit.{Bench}
 use Rattle.sets.specs.Sets.{has, width}
@@ -45,13 +46,6 @@ module _ (p : Project) (resource : ℕ → ℕ) (bench : Bench p resource) (q : 
   root-frozen {ℓ} : {C : Type ℓ} (i : ℕ) → Frozen p (frozen present (model.root present)) i → C
   unfolding model.root
   root-frozen i f = true-not-false (f .there) (same-not (has present i))
-
-  zeros : (n i : ℕ) → _≡_ {A = ℕ} (getD (replicate n 0) i 0) 0
-  zeros n i =
-      by-cases
-      (decLt i n)
-      (λ l. getD-replicate n i 0 0 l)
-      (λ g. List·getD-eq-default (replicate n 0) 0 (omega (arith, length-replicate {A = ℕ} n 0)))
 
   pub root-shows : Shows p resource q present (model.root present)
   unfolding model.root

@@ -48,7 +48,7 @@ module _ (p : Project) (resource : ℕ → ℕ) (bench : Bench p resource) (q : 
     is-active : Active p (startsAt q s)
     is-active = theory.leaf-active p resource (frozen present s) (startsAt q s) bench (shows .state) all-frozen
 
-    start-at : (i : ℕ) → Has p i → model.startOf (endAt s i) (q .duration i) ≡ startsAt q s i
+    pub start-at : (i : ℕ) → Has p i → model.startOf (endAt s i) (q .duration i) ≡ startsAt q s i
     unfolding model.startOf
     start-at i h =
         let ran : p .duration i ≤ endAt s i = shows .ended i (record { below = h .below; there = all-frozen i h }) in
@@ -115,7 +115,7 @@ module _ (p : Project) (resource : ℕ → ℕ) (bench : Bench p resource) (q : 
     unfolding s
     leaf-marked i l z = place i l ∙ mark-at s (leaf .shows) (leaf .empty) i z
 
-    leaf-active : Active p (startsOf (model.starts q n ends))
+    pub leaf-active : Active p (startsOf (model.starts q n ends))
     unfolding s
     leaf-active =
         Active-agree p (startsAt q s) (startsOf (model.starts q n ends)) agrees

@@ -5,3 +5,4 @@ pub mod Freeze
 pub mod Leaf
 pub mod Complete
 pub mod Found
+pub mod Union

@@ -1,13 +1,15 @@
 -- The earliest start and the makespan.
-use Prim.Native.Nat.{ℕ, zero, suc, _-_, _≤_, _<_, min}
+use Prim.Native.Nat.{ℕ, zero, suc, _+_, _-_, _≤_, _<_, min}
 use native.Mathlib.Nat.{not-suc-le-zero}
 use native.Mathlib.Decide.{ℕ-discrete, decLe}
 use native.Mathlib.Omega.{arith}
-use mathlib.Core.Bool.{true, false, cond}
-use mathlib.Core.Path.{_≡_, refl, _∙_}
+use mathlib.Core.Bool.{Bool, true, false, cond}
+use mathlib.Core.Path.{_≡_, refl, ap, ap₂, _∙_}
 use mathlib.Core.Logic.{by-cases}
 use Rattle.schedule.specs.Project.{Project}
 use Rattle.schedule.specs.Schedule.{Starts, latestEnd, earliestStart, makespan}
+use Rattle.base.specs.Below.{maxBelow}
+use Rattle.base.proofs.Below.{max-eq}
 use Rattle.base.proofs.Bools.{by-bool, true-not-false, cond-true, cond-false}
 use Rattle.schedule.proofs.Load.{Has, end-le, ends-least}
 
@@ -84,3 +86,24 @@ opening p S = go (first-below p S (p .size) (omega arith))
     go (none f e) =
         let no-one : (i : ℕ) → Has p i → ⊥ = λ i h. true-not-false (h .there) (f i (h .below)) in
         empty no-one (omega (arith, ends-least p S 0 (λ i h. absurd (no-one i h))))
+
+-- Two projects with the same activities.
+module _ (p p′ : Project) (S : Starts) (size : p .size ≡ p′ .size) (present : (i : ℕ) → p .present i ≡ p′ .present i)
+    (duration : (i : ℕ) → p .duration i ≡ p′ .duration i) where
+  latest-same : latestEnd p S ≡ latestEnd p′ S
+  unfolding latestEnd
+  latest-same =
+      ap (λ (n : ℕ). maxBelow n λ i. cond (p .present i) (S i + p .duration i) 0) size
+      ∙ max-eq (p′ .size) (λ i. cond (p .present i) (S i + p .duration i) 0)
+      (λ i. cond (p′ .present i) (S i + p′ .duration i) 0)
+      (λ i l. ap₂ (λ (b : Bool) (d : ℕ). cond b (S i + d) 0) (present i) (duration i))
+
+  earliest-same : (n : ℕ) → earliestStart p S n ≡ earliestStart p′ S n
+  unfolding earliestStart
+  earliest-same zero = latest-same
+  earliest-same (suc n) =
+      ap₂ (λ (b : Bool) (first : ℕ). cond b (min first (S n)) first) (present n) (earliest-same n)
+
+  pub makespan-same : makespan p S ≡ makespan p′ S
+  unfolding makespan
+  makespan-same = ap₂ _-_ latest-same (ap (earliestStart p S) size ∙ earliest-same (p′ .size))

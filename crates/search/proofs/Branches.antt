@@ -16,8 +16,9 @@ use Rattle.scan.proofs.Forced.{inner}
 use Rattle.scan.specs.Model.{Problem, State, never, finish, isOpen, key, isChoice, freeze, branches, leaves}
 use Rattle.sets.specs.Lowest.{lowestOf, afterLowest}
 use Rattle.sets.proofs.Members.{members, fold-members, after-less, after-has, turn}
-use Rattle.tally.specs.Tables.{problemIn}
-use Rattle.tally.specs.Seen.{Setting, Kept, IsTally, settingIn, keptOf, counted, seen, seenIn}
+use Rattle.network.specs.Network.{capOf}
+use Rattle.candidates.specs.Tables.{problemIn}
+use Rattle.tally.specs.Seen.{Kept, IsTally, keptOf, seen, isNewIn, seenIn}
 use Rattle.search.specs.Standing.{Position, AtState, Beside, Searched, Explored}
 
 module _ (p : Problem) (s : State) (k i end : ℕ) (given : end ≡ cond (isChoice p s k i) (finish p s i) never) where
@@ -31,21 +32,28 @@ module _ (p : Problem) (s : State) (k i end : ℕ) (given : end ≡ cond (isChoi
   no-choice l e =
       by-bool (isChoice p s k i) (λ y. absurd (omega (arith, given ∙ cond-true (finish p s i) never y))) (λ n. n)
 
-module _ (p : Problem) (q : Setting) where
-  pub stopped : (k : Kept) (l : List (List ℕ)) → q .cap < k .tally .count → foldl (seen p q) k l ≡ k
+-- Above the cap nothing is done.
+module _ (t b : List ℕ) where
+  passed-over : (k : Kept) (ends : List ℕ) → capOf t < k .tally .count → seenIn t b k ends ≡ k
   unfolding seen
-  stopped k [] h = refl
-  stopped k (x ∷ l) h =
-      ap (λ (m : Kept). foldl (seen p q) m l) (cond-false (counted p q k x) k (lt-leb (k .tally .count) (q .cap) h))
-      ∙ stopped k l h
+  passed-over k ends h =
+      by-bool (isNewIn t b ends)
+      (λ y. cond-true _ _ y ∙ cond-false _ _ (lt-leb (k .tally .count) (capOf t) h))
+      (λ n. cond-false _ _ n)
 
+  pub stopped : (k : Kept) (l : List (List ℕ)) → capOf t < k .tally .count → foldl (seenIn t b) k l ≡ k
+  stopped k [] h = refl
+  stopped k (x ∷ l) h = ap (λ (m : Kept). foldl (seenIn t b) m l) (passed-over k x h) ∙ stopped k l h
+
+-- Branch by branch, whatever becomes of a schedule: `look` gives what is kept after it.
+module _ (p : Problem) (look : Kept → List ℕ → Kept) where
   -- What is seen in the branch of activity i, where the state's key is `at`.
   unfoldable pub seenBelow : State → ℕ → ℕ → Kept → ℕ → Kept
   seenBelow s fuel at k i =
-      foldl (seen p q) k (elim (isChoice p s at i) [ true ↦ leaves p fuel (freeze p s i) | false ↦ [] ])
+      foldl look k (elim (isChoice p s at i) [ true ↦ leaves p fuel (freeze p s i) | false ↦ [] ])
 
   pub seen-choice : (s : State) (fuel at i : ℕ) (k : Kept) → isChoice p s at i ≡ true
-      → foldl (seen p q) k (leaves p fuel (freeze p s i)) ≡ seenBelow s fuel at k i
+      → foldl look k (leaves p fuel (freeze p s i)) ≡ seenBelow s fuel at k i
   unfolding seenBelow
   seen-choice s fuel at i k e = rw e
 
@@ -61,22 +69,22 @@ module _ (p : Problem) (q : Setting) where
   -- The branches are those of the candidates.
   pub seen-all : (s : State) (cands fuel : ℕ) (k : Kept) → s .left ≢ 0
       → ((i : ℕ) → has cands i ≡ false → isOpen p s i ≡ false)
-      → foldl (seenBelow s fuel (key p s)) k (members cands) ≡ foldl (seen p q) k (leaves p (suc fuel) s)
+      → foldl (seenBelow s fuel (key p s)) k (members cands) ≡ foldl look k (leaves p (suc fuel) s)
   unfolding branches members gather seenBelow
   seen-all s cands fuel k ne none =
       let at = key p s in
       let part : ℕ → List (List ℕ) =
       λ i. elim (isChoice p s at i) [ true ↦ leaves p fuel (freeze p s i) | false ↦ [] ] in
-      fold-members cands (seenBelow s fuel at) (λ n. foldl (seen p q) k (gather n part))
-      (λ i e. foldl-append (seen p q) k (gather i part) (part i))
-      (λ i e. foldl-append (seen p q) k (gather i part) (part i)
-      ∙ sym (seen-no-choice s fuel at i (foldl (seen p q) k (gather i part)) (choice-open s at i (none i e))))
+      fold-members cands (seenBelow s fuel at) (λ n. foldl look k (gather n part))
+      (λ i e. foldl-append look k (gather i part) (part i))
+      (λ i e. foldl-append look k (gather i part) (part i)
+      ∙ sym (seen-no-choice s fuel at i (foldl look k (gather i part)) (choice-open s at i (none i e))))
       most
-      ∙ sym (ap (foldl (seen p q) k) (inner p s fuel ne))
+      ∙ sym (ap (foldl look k) (inner p s fuel ne))
 
 -- The same in the search's table, with the state's own key.
-abbrev pub seenFrom : List ℕ → State → Kept → ℕ → Kept
-seenFrom t s = seenBelow (problemIn t) (settingIn t) s (size (s .left) most) (key (problemIn t) s)
+abbrev pub seenFrom : List ℕ → List ℕ → State → Kept → ℕ → Kept
+seenFrom t b s = seenBelow (problemIn t) (seenIn t b) s (size (s .left) most) (key (problemIn t) s)
 
 -- What is no candidate is not open.
 pub open-none : {t : List ℕ} {x : Position} {s : State} → AtState t x s
@@ -91,18 +99,18 @@ open-none {t} {x} {s} at i none =
 -- ---- the loop over the candidates
 
 -- The members of `rest` are still to come: what the fold over them gives from here is what the whole search gives.
-pub record Going (t : List ℕ) (x : Position) (k : Kept) (w cells area : List ℕ) (rest : ℕ) : Type 0 where
+pub record Going (t b : List ℕ) (x : Position) (k : Kept) (w cells area : List ℕ) (rest : ℕ) : Type 0 where
   pub tally : IsTally cells
   pub beside : Beside t x w
   pub area-kept : length area ≡ length (k .area)
   pub inside : rest < 2 ^ most
   pub within : (j : ℕ) → has rest j ≡ true → has (x .cands) j ≡ true
   pub kept : (s : State) → AtState t x s
-      → foldl (seenFrom t s) (keptOf cells area) (members rest)
-      ≡ foldl (seenIn t) k (leaves (problemIn t) (suc (size (s .left) most)) s)
+      → foldl (seenFrom t b s) (keptOf cells area) (members rest)
+      ≡ foldl (seenIn t b) k (leaves (problemIn t) (suc (size (s .left) most)) s)
 
-module _ {t : List ℕ} {x : Position} {k : Kept} {w cells area : List ℕ} {rest rest′ i : ℕ}
-    (h : Going t x k w cells area rest) (more : rest ≢ 0) (at : i ≡ lowestOf rest)
+module _ {t b : List ℕ} {x : Position} {k : Kept} {w cells area : List ℕ} {rest rest′ i : ℕ}
+    (h : Going t b x k w cells area rest) (more : rest ≢ 0) (at : i ≡ lowestOf rest)
     (next : rest′ ≡ afterLowest rest) where
   next-less : rest′ < rest
   next-less = omega (arith, after-less rest (h .inside) more)
@@ -112,7 +120,7 @@ module _ {t : List ℕ} {x : Position} {k : Kept} {w cells area : List ℕ} {res
 
   -- The candidate is no choice.
   pub going-on : ((s : State) → AtState t x s → isChoice (problemIn t) s (key (problemIn t) s) i ≡ false)
-      → Going t x k w cells area rest′
+      → Going t b x k w cells area rest′
   going-on none =
       record {
         tally = h .tally;
@@ -121,8 +129,8 @@ module _ {t : List ℕ} {x : Position} {k : Kept} {w cells area : List ℕ} {res
         inside = omega (arith, next-less, h .inside);
         within = next-within;
         kept = λ s stands.
-            turn (seenFrom t s) (h .inside) more at next
-            (seen-no-choice (problemIn t) (settingIn t) s (size (s .left) most) (key (problemIn t) s) i
+            turn (seenFrom t b s) (h .inside) more at next
+            (seen-no-choice (problemIn t) (seenIn t b) s (size (s .left) most) (key (problemIn t) s) i
             (keptOf cells area)
             (none s stands))
             (h .kept s stands);
@@ -134,8 +142,8 @@ module _ {t : List ℕ} {x : Position} {k : Kept} {w cells area : List ℕ} {res
       → length area′ ≡ length area
       → ((s : State) → AtState t x s → isChoice (problemIn t) s (key (problemIn t) s) i ≡ true)
       → ((s : State) → AtState t x s → size (s .left) most ≡ suc (size (freeze (problemIn t) s i .left) most))
-      → ((s : State) → AtState t x s → Searched t (freeze (problemIn t) s i) (keptOf cells area) cells′ area′)
-      → Going t x k w′ cells′ area′ rest′
+      → ((s : State) → AtState t x s → Searched t b (freeze (problemIn t) s i) (keptOf cells area) cells′ area′)
+      → Going t b x k w′ cells′ area′ rest′
   going-back {w′} {cells′} {area′} tally beside same chosen fewer found =
       record {
         tally = tally;
@@ -144,12 +152,12 @@ module _ {t : List ℕ} {x : Position} {k : Kept} {w cells area : List ℕ} {res
         inside = omega (arith, next-less, h .inside);
         within = next-within;
         kept = λ s stands.
-            turn (seenFrom t s) (h .inside) more at next
+            turn (seenFrom t b s) (h .inside) more at next
             (found s stands .kept
-            ∙ ap (λ (fuel : ℕ). foldl (seenIn t) (keptOf cells area)
+            ∙ ap (λ (fuel : ℕ). foldl (seenIn t b) (keptOf cells area)
             (leaves (problemIn t) fuel (freeze (problemIn t) s i)))
             (sym (fewer s stands))
-            ∙ seen-choice (problemIn t) (settingIn t) s (size (s .left) most) (key (problemIn t) s) i
+            ∙ seen-choice (problemIn t) (seenIn t b) s (size (s .left) most) (key (problemIn t) s) i
             (keptOf cells area)
             (chosen s stands))
             (h .kept s stands);
@@ -157,15 +165,15 @@ module _ {t : List ℕ} {x : Position} {k : Kept} {w cells area : List ℕ} {res
 
 -- ---- the branch, by whichever way it was searched
 
-pub record BranchFound (t : List ℕ) (x : Position) (k : Kept) (w cells area : List ℕ) : Type 0 where
-  pub explored : Explored t x k w cells area
+pub record BranchFound (t b : List ℕ) (x : Position) (k : Kept) (w cells area : List ℕ) : Type 0 where
+  pub explored : Explored t b x k w cells area
   pub same : length area ≡ length (k .area)
 
-pub found-at : {t : List ℕ} {x : Position} {k : Kept} {w cells area w′ cells′ area′ : List ℕ}
-    → w′ ≡ w → cells′ ≡ cells → area′ ≡ area → BranchFound t x k w cells area → BranchFound t x k w′ cells′ area′
-found-at {t} {x} {k} {w} {cells′ = cells′} {area′ = area′} e f g found =
-    subst (λ (v : List ℕ). BranchFound t x k v cells′ area′) (sym e)
-    (subst₂ (λ (u v : List ℕ). BranchFound t x k w u v) (sym f) (sym g) found)
+pub found-at : {t b : List ℕ} {x : Position} {k : Kept} {w cells area w′ cells′ area′ : List ℕ}
+    → w′ ≡ w → cells′ ≡ cells → area′ ≡ area → BranchFound t b x k w cells area → BranchFound t b x k w′ cells′ area′
+found-at {t} {b} {x} {k} {w} {cells′ = cells′} {area′ = area′} e f g found =
+    subst (λ (v : List ℕ). BranchFound t b x k v cells′ area′) (sym e)
+    (subst₂ (λ (u v : List ℕ). BranchFound t b x k w u v) (sym f) (sym g) found)
 
 pub one-fewer : (p : Problem) (s : State) (i : ℕ) → i < most → has (s .left) i ≡ true
     → size (s .left) most ≡ suc (size (freeze p s i .left) most)

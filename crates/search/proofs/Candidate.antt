@@ -13,11 +13,11 @@ use Rattle.sets.proofs.Laws.{has-none, meet-not, size-without}
 use Rattle.sets.specs.Sets.{most, has, meet, size}
 use Rattle.scan.specs.Model.{State, never, ready, earliest, finish, isOpen, keyOf, key, isChoice}
 use Rattle.network.specs.Network.{predsAt, nextAt, resourceAt}
-use Rattle.tally.specs.Tables.{problemIn}
+use Rattle.candidates.specs.Tables.{problemIn}
 use Rattle.candidates.specs.Work.{endAt, soonAt, keyAt, leastAt, choiceAt, Timed, opens, finishAt}
 use Rattle.tally.specs.Leaf.{Ended, Fit}
 use Rattle.search.specs.Standing.{AtState, Position}
-use Rattle.tally.proofs.Columns.{duration-at, resource-at}
+use Rattle.candidates.proofs.Columns.{duration-at, resource-at}
 use Rattle.search.proofs.Parts.{least-eq, member-below, open-is, not-false}
 
 module _ {t : List ℕ} (fit : Fit t) {x : Position} {s : State} (at : AtState t x s) where

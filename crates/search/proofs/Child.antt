@@ -15,11 +15,11 @@ use Rattle.sets.proofs.Laws.{meet-at, meet-not, meet-none}
 use Rattle.sets.specs.Sets.{most, has, meet, size, width}
 use Rattle.scan.specs.Model.{State, ready, earliest, finish, isOpen, freeze, lastEnd}
 use Rattle.network.specs.Network.{predsAt, nextAt, nearAt, durationAt, resourceAt}
-use Rattle.tally.specs.Tables.{problemIn}
+use Rattle.candidates.specs.Tables.{problemIn}
 use Rattle.candidates.specs.Work.{endAt, readyAt, freeAt, opens, Released, readyFrom, freeFrom}
 use Rattle.tally.specs.Leaf.{Fit}
 use Rattle.search.specs.Standing.{AtState, Beside, Position, position}
-use Rattle.tally.proofs.Columns.{duration-at}
+use Rattle.candidates.proofs.Columns.{duration-at}
 use Rattle.search.proofs.Parts.{store-either, latest-set, still, stays, other, gone-of, gone, member-below}
 use Rattle.search.proofs.Parts.{nearest, ready-is, open-is, or-elim, or-right, not-false}
 pub use Rattle.search.proofs.Candidate.{all-ended, key-is, below, waits, soon-is, finish-is, finish-early}

@@ -1,38 +1,34 @@
 -- The table as the problem that is asked for, and the state at which the search starts.
-use Prim.Native.Nat.{ℕ, zero, suc, _+_, _/_, _%_, _<_}
+use Prim.Native.Nat.{ℕ, _+_, _/_, _%_, _<_}
 use native.Mathlib.Decide.{decLt}
 use native.Mathlib.Omega.{arith}
 use mathlib.Core.Bool.{Bool, true, false, false≢true, cond, not, _&&_}
 use mathlib.Core.List.{List, foldl}
 use mathlib.Core.Logic.{by-cases}
-use mathlib.Core.Path.{_≡_, refl, sym, ap, ap₂, _∙_, fun-ext}
+use mathlib.Core.Path.{_≡_, refl, sym, ap, ap₂, _∙_, subst₂, fun-ext}
 use lib.ListN.{getD, drop, replicate}
 use lib.Seq.{getD-take}
 use Rattle.plan.specs.Limits.{mostResources, packing, wordValues}
 use Rattle.base.specs.Below.{maxBelow}
 use Rattle.base.proofs.Below.{max-least}
+use Rattle.base.specs.Lists.{keep}
+use Rattle.base.proofs.Lists.{zeros, fold-keep}
 use Rattle.sets.proofs.Laws.{has-none, size-le}
 use Rattle.sets.specs.Sets.{most, has, meet, size, width}
 use Rattle.scan.specs.Model.{Problem, root, scanned, ready, isOpen, problemOf, scanOf}
-use Rattle.network.specs.Network.{predsAt, Network, durationAt, resourceAt, predsFrom}
-use Rattle.tally.specs.Tables.{problemIn}
-use Rattle.tally.specs.Seen.{Setting, settingIn, keptOf, IsTally, allSeen, Kept, seen}
+use Rattle.network.specs.Network.{predsAt, Network, durationAt, resourceAt, predsFrom, linkOf}
+use Rattle.candidates.specs.Tables.{problemIn}
+use Rattle.orders.specs.Book.{Rivals, isNewBy}
+use Rattle.tally.specs.Seen.{Setting, settingIn, keptOf, IsTally, allSeen, Kept, seen, isNewIn}
 use Rattle.candidates.specs.Work.{Timed, Opened, readyFrom, freeFrom, workCells}
 use Rattle.tally.specs.Leaf.{Fit}
 use Rattle.search.specs.Standing.{AtState, position, Standing, Explored}
-use Rattle.tally.proofs.Columns.{preds-at}
+use Rattle.candidates.proofs.Columns.{preds-at}
 use Rattle.variant.specs.declared.Variant.{Variant}
 use Rattle.variant.specs.Tables.{entryIn, IsVariant, Tabled}
 use Rattle.variant.specs.Project.{variantAt}
 use Rattle.term.specs.Valid.{HasVariant}
 use Rattle.variant.proofs.Tables.{past, few, known, short, long, absent, member-acts}
-
--- ---- lists of zeros, and what lies behind the end of a list
-
-pub zeros : (n j : ℕ) → _≡_ {A = ℕ} (getD (replicate n 0) j 0) 0
-zeros zero j = refl
-zeros (suc n) zero = refl
-zeros (suc n) (suc j) = zeros n j
 
 max-zeros : (n : ℕ) (f : ℕ → ℕ) → ((j : ℕ) → f j ≡ 0) → 0 ≡ maxBelow n f
 max-zeros n f none = omega (arith, max-least n f 0 (λ j l. omega (arith, none j)))
@@ -43,8 +39,8 @@ nothing false x e = refl
 
 -- ---- the search at its root
 
-module _ {x : Variant} {number cap : ℕ} (tabled : Tabled x number) (word : cap < wordValues) {table : List ℕ}
-    (net : Network x number cap table) where
+module _ {x : Variant} {number cap link : ℕ} (tabled : Tabled x number) (word : cap < wordValues) {table : List ℕ}
+    (net : Network x number cap link table) where
   abbrev c : HasVariant (tabled .plan) (tabled .term) number
   c = tabled .chosen
 
@@ -95,6 +91,7 @@ module _ {x : Variant} {number cap : ℕ} (tabled : Tabled x number) (word : cap
   fits =
       record {
         linked = net .linked;
+        grouped = net .grouped;
         short = λ i l. omega (arith, duration-in i (omega arith), short c held i);
         acts = omega (arith, net .many, few c held);
         variant = omega (arith, net .number-is, c .below, c .valid .few);
@@ -152,18 +149,36 @@ module _ {x : Variant} {number cap : ℕ} (tabled : Tabled x number) (word : cap
         avail-wide = refl;
       }
 
-  pub root-standing : (cands : ℕ) → Opened table (x .present) cands → (cells : List ℕ) → IsTally cells
-      → Standing table (position (x .present) cands 0 (replicate workCells 0)) cells
-  root-standing cands opened cells tally =
-      record { fit = fits; timed = root-timed; tally = tally; state = root (x .present); at = root-at cands opened }
+  module _ {book : List ℕ} where
+    pub root-standing : Rivals (problemOf x .preds) link book → (cands : ℕ) → Opened table (x .present) cands
+        → (cells : List ℕ) → IsTally cells
+        → Standing table book (position (x .present) cands 0 (replicate workCells 0)) cells
+    root-standing rivals cands opened cells tally =
+        record {
+          fit = fits;
+          rivals =
+              subst₂ (λ (p : Problem) (k : ℕ). Rivals (p .preds) k book) (sym same-problem) (sym (net .linked-to))
+              rivals;
+          timed = root-timed;
+          tally = tally;
+          state = root (x .present);
+          at = root-at cands opened;
+        }
 
-  -- What the search finds below the root is what was asked for.
-  pub all-found : (cands : ℕ) → Opened table (x .present) cands → {k k′ : Kept} {w cells area : List ℕ} → k ≡ k′
-      → Explored table (position (x .present) cands 0 (replicate workCells 0)) k w cells area
-      → keptOf cells area ≡ allSeen x number cap k′
-  unfolding allSeen scanned root
-  all-found cands opened {k} {k′} e explored =
-      explored .searched (root (x .present)) (root-at cands opened) .kept
-      ∙ ap₂ (λ (p : Problem) (k : Kept). foldl (seen p (settingIn table)) k (scanned p (x .present))) same-problem e
-      ∙ ap (λ (q : Setting). foldl (seen (problemOf x) q) k′ (scanOf x))
-      (λ i. record { variant = net .number-is i; acts = net .many i; cap = net .capped i })
+    -- What the search finds below the root is what was asked for.
+    pub all-found : (cands : ℕ) → Opened table (x .present) cands → {k k′ : Kept} {w cells area : List ℕ} → k ≡ k′
+        → Explored table book (position (x .present) cands 0 (replicate workCells 0)) k w cells area
+        → keptOf cells area ≡ allSeen x number cap (isNewBy (problemOf x) link book) k′
+    unfolding allSeen scanned root
+    all-found cands opened {k} {k′} e explored =
+        explored .searched (root (x .present)) (root-at cands opened) .kept
+        ∙ fold-keep (isNewIn table book) (seen (problemIn table) (settingIn table)) k
+        (scanned (problemIn table) (x .present))
+        ∙ ap₂
+        (λ (p : Problem) (k : Kept).
+        foldl (seen p (settingIn table)) k (keep (isNewBy p (linkOf table) book) (scanned p (x .present))))
+        same-problem e
+        ∙ ap₂
+        (λ (q : Setting) (n : ℕ). foldl (seen (problemOf x) q) k′ (keep (isNewBy (problemOf x) n book) (scanOf x)))
+        (λ i. record { variant = net .number-is i; acts = net .many i; cap = net .capped i })
+        (net .linked-to)

@@ -19,9 +19,9 @@ use Rattle.sets.proofs.Laws.{has-above, has-without, meet-not}
 use Rattle.sets.specs.Sets.{most, has, meet}
 use Rattle.scan.specs.Model.{State, leastBelow, ready, isOpen, lastEnd}
 use Rattle.network.specs.Network.{predsAt, nearAt, Linked}
-use Rattle.tally.specs.Tables.{problemIn}
+use Rattle.candidates.specs.Tables.{problemIn}
 use Rattle.candidates.specs.Work.{endAt, latestOf}
-use Rattle.tally.proofs.Columns.{preds-at}
+use Rattle.candidates.proofs.Columns.{preds-at}
 
 -- ---- the greatest and the least below n
 

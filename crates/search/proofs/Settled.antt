@@ -1,9 +1,9 @@
 -- What is left wants no resource twice: each candidate is frozen as it comes, with the same schedules below.
-use Prim.Native.Nat.{ℕ, zero, suc, _+_, _-_, _^_, _≤_, _<_, max}
+use Prim.Native.Nat.{ℕ, _+_, _-_, _^_, _<_, max}
 use native.Mathlib.Decide.{ℕ-discrete}
 use native.Mathlib.Omega.{arith}
 use mathlib.Core.Bool.{Bool, true, false, not, _&&_, _||_, and-false, or-false}
-use mathlib.Core.List.{List, [], _∷_, _++_, foldl}
+use mathlib.Core.List.{List, foldl}
 use mathlib.Core.Logic.{_≢_, by-cases}
 use mathlib.Core.Path.{_≡_, refl, sym, ap, ap₂, _∙_, subst, subst₂}
 use lib.Dec.{eqb}
@@ -11,47 +11,25 @@ use lib.ListN.{getD, set}
 use lib.Seq.{getD-set-same, getD-set-other}
 use borrow.Author.Tests.{eq-eqb, ne-eqb}
 use Rattle.base.proofs.Bools.{by-bool, true-not-false, and-left, and-right}
-use Rattle.base.proofs.Below.{max-eq}
-use Rattle.base.specs.Lists.{gather}
 use Rattle.sets.proofs.Laws.{has-none, has-without}
 use Rattle.sets.specs.Sets.{most, has, size, width}
-use Rattle.timetable.specs.Mark.{places}
-use Rattle.scan.specs.Model.{Problem, State, finish, freeze, startOf, starts, lastEnd}
+use Rattle.scan.specs.Model.{State, finish, freeze, lastEnd}
 use Rattle.plan.specs.Limits.{mostResources, cellValues}
 use Rattle.scan.proofs.Forced as forced
 use Rattle.sets.specs.Lowest.{lowestOf, afterLowest}
 use Rattle.sets.proofs.Members.{lowest-is, lowest-has, lowest-below}
 use Rattle.network.specs.Network.{resourceAt}
-use Rattle.tally.specs.Tables.{problemIn}
-use Rattle.tally.specs.Seen.{Setting, Kept, settingIn, keptOf, IsTally, better, foundRow, counted, seen}
-use Rattle.tally.specs.Seen.{seenIn}
+use Rattle.candidates.specs.Tables.{problemIn}
+use Rattle.tally.specs.Seen.{Kept, keptOf, IsTally, seenIn}
 use Rattle.candidates.specs.Work.{freeAt, Timed, opens, Released, Uncontested, readyFrom, freeFrom, finishAt}
 use Rattle.tally.specs.Leaf.{Fit, Leaf}
 use Rattle.search.specs.Standing.{Position, position, AtState, Standing, Beside, Explored}
-use Rattle.tally.proofs.Columns.{duration-at, resource-at}
+use Rattle.candidates.proofs.Columns.{duration-at, resource-at}
 use Rattle.search.proofs.Parts.{member-below}
+use Rattle.search.proofs.Same.{latest-same, seen-in-same}
 use Rattle.search.proofs.Child.{all-ended, below, waits, finish-is, finish-early, child, no-release}
 use Rattle.search.proofs.Child.{no-release-of}
 use Rattle.search.proofs.Stored.{timed-store, beside-refl, same-end, same-free, same-ready}
-
--- ---- a schedule is seen by the ends of the activities alone
-
-starts-same : (p : Problem) (n : ℕ) (a b : List ℕ) → ((i : ℕ) → i < n → getD a i 0 ≡ getD b i 0)
-    → starts p n a ≡ starts p n b
-unfolding starts gather
-starts-same p zero a b h = refl
-starts-same p (suc n) a b h =
-    ap₂ _++_ (starts-same p n a b (λ i l. h i (omega arith)))
-    (ap (λ (x : ℕ). startOf x (p .duration n) ∷ []) (h n (omega arith)))
-
-module _ (a b : List ℕ) (same : (i : ℕ) → i < most → getD a i 0 ≡ getD b i 0) where
-  pub latest-same : lastEnd a ≡ lastEnd b
-  latest-same = max-eq most (λ i. getD a i 0) (λ i. getD b i 0) same
-
-  pub seen-same : (p : Problem) (q : Setting) (k : Kept) → q .acts ≤ places → seen p q k a ≡ seen p q k b
-  unfolding seen counted better foundRow
-  seen-same p q k few =
-      rw (latest-same, starts-same p places a b same, starts-same p (q .acts) a b (λ i l. same i (omega arith))) refl
 
 -- ---- states of the table
 
@@ -98,17 +76,19 @@ module _ {t : List ℕ} (fit : Fit t) {x : Position} {s : State} (at : AtState t
     pub last-is : x .latest ≡ lastEnd (x .work)
     last-is = at .last ∙ sym (latest-same (x .work) (s .ends) ends-at)
 
-    pub leaf-seen : (k : Kept) → seenIn t k (x .work) ≡ foldl (seenIn t) k (forced.allBelow (problemIn t) s)
+    pub leaf-seen : (b : List ℕ) (k : Kept)
+        → seenIn t b k (x .work) ≡ foldl (seenIn t b) k (forced.allBelow (problemIn t) s)
     unfolding forced.allBelow
-    leaf-seen k =
-        seen-same (x .work) (s .ends) ends-at (problemIn t) (settingIn t) k (fit .acts)
-        ∙ sym (ap (foldl (seenIn t) k) (forced.leaf (problemIn t) s (size (s .left) most) (at .is-left ∙ none)))
+    leaf-seen b k =
+        seen-in-same (x .work) (s .ends) ends-at t b k (fit .acts)
+        ∙ sym (ap (foldl (seenIn t b) k) (forced.leaf (problemIn t) s (size (s .left) most) (at .is-left ∙ none)))
 
   -- What is left cannot be frozen.
-  pub dead-seen : (k : Kept) → x .cands ≡ 0 → x .left ≢ 0 → k ≡ foldl (seenIn t) k (forced.allBelow (problemIn t) s)
+  pub dead-seen : (b : List ℕ) (k : Kept) → x .cands ≡ 0 → x .left ≢ 0
+      → k ≡ foldl (seenIn t b) k (forced.allBelow (problemIn t) s)
   unfolding forced.allBelow
-  dead-seen k none some =
-      sym (ap (foldl (seenIn t) k)
+  dead-seen b k none some =
+      sym (ap (foldl (seenIn t b) k)
       (forced.dead (problemIn t) s (size (s .left) most) (λ z. some (sym (at .is-left) ∙ z))
       (λ i l. sym (at .candidates i l) ∙ ap (λ (z : ℕ). has z i) none ∙ has-none i)))
 
@@ -251,8 +231,8 @@ settling-start t x timed =
       reached = λ s at. record { state = s; at = at; same = refl };
     }
 
-module _ {t : List ℕ} {x y : Position} {cells : List ℕ} (start : Standing t x cells) (apart : Uncontested t (x .left))
-    (h : Settling t x y) where
+module _ {t b : List ℕ} {x y : Position} {cells : List ℕ} (start : Standing t b x cells)
+    (apart : Uncontested t (x .left)) (h : Settling t x y) where
   pub state-here : State
   state-here = h .reached (start .state) (start .at) .state
 
@@ -302,7 +282,7 @@ module _ {t : List ℕ} {x y : Position} {cells : List ℕ} (start : Standing t 
                   ends = λ j l m. turn .ends j l (gone j m) ∙ h .beside .ends j l m;
                   done = λ j l m. turn .done j l (gone j m) ∙ h .beside .done j l m;
                   candidates = λ j l m.
-                      by-bool (has (y .left) j) (λ b. turn .candidates j l (h .still j m b)) (λ b. turn .done j l b)
+                      by-bool (has (y .left) j) (λ z. turn .candidates j l (h .still j m z)) (λ z. turn .done j l z)
                       ∙ h .beside .candidates j l m;
                   free = λ r l. turn .free r l ∙ h .beside .free r l;
                 };
@@ -320,7 +300,7 @@ module _ {t : List ℕ} {x y : Position} {cells : List ℕ} (start : Standing t 
           }
         where
           gone : (j : ℕ) → has (x .left) j ≡ false → has (y .left) j ≡ false
-          gone j m = by-bool (has (y .left) j) (λ b. true-not-false (h .within j b) m) (λ b. b)
+          gone j m = by-bool (has (y .left) j) (λ z. true-not-false (h .within j z) m) (λ z. z)
 
           parts : (j : ℕ) → has (y .left - 2 ^ i) j ≡ true → (has (y .left) j ≡ true) × (not (eqb j i) ≡ true)
           parts j m =
@@ -355,8 +335,8 @@ module _ {t : List ℕ} {x y : Position} {cells : List ℕ} (start : Standing t 
           last = last-is (start .fit) at-here none;
         }
 
-    pub settled-seen : {k : Kept} {cells′ area : List ℕ} → IsTally cells′ → keptOf cells′ area ≡ seenIn t k (y .work)
-        → Explored t x k (y .work) cells′ area
+    pub settled-seen : {k : Kept} {cells′ area : List ℕ} → IsTally cells′
+        → keptOf cells′ area ≡ seenIn t b k (y .work) → Explored t b x k (y .work) cells′ area
     unfolding forced.allBelow
     settled-seen {k} tally e =
         record {
@@ -365,13 +345,13 @@ module _ {t : List ℕ} {x y : Position} {cells : List ℕ} (start : Standing t 
               let r = h .reached s at in
               record {
                 tally = tally;
-                kept = e ∙ leaf-seen (start .fit) (r .at) none k ∙ ap (foldl (seenIn t) k) (sym (r .same));
+                kept = e ∙ leaf-seen (start .fit) (r .at) none b k ∙ ap (foldl (seenIn t b) k) (sym (r .same));
               };
         }
 
   -- Something is left and none of it is a candidate: there is no schedule.
   pub settled-dead : {area : List ℕ} → y .cands ≡ 0 → y .left ≢ 0
-      → Explored t x (keptOf cells area) (y .work) cells area
+      → Explored t b x (keptOf cells area) (y .work) cells area
   unfolding forced.allBelow
   settled-dead {area} done some =
       record {
@@ -381,13 +361,13 @@ module _ {t : List ℕ} {x y : Position} {cells : List ℕ} (start : Standing t 
             record {
               tally = start .tally;
               kept =
-                  dead-seen (start .fit) (r .at) (keptOf cells area) done some
-                  ∙ ap (foldl (seenIn t) (keptOf cells area)) (sym (r .same));
+                  dead-seen (start .fit) (r .at) b (keptOf cells area) done some
+                  ∙ ap (foldl (seenIn t b) (keptOf cells area)) (sym (r .same));
             };
       }
 
 -- The last one left is frozen.
-module _ {t : List ℕ} {x : Position} {cells : List ℕ} (start : Standing t x cells) (some : 0 < x .left)
+module _ {t b : List ℕ} {x : Position} {cells : List ℕ} (start : Standing t b x cells) (some : 0 < x .left)
     (single : afterLowest (x .left) ≡ 0) where
   pub last-apart : Uncontested t (x .left)
   last-apart = single-apart (start .fit) (start .at) some single

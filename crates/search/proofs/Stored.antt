@@ -17,11 +17,11 @@ use Rattle.sets.specs.Sets.{most, has, size}
 use Rattle.scan.specs.Model.{State, finish, freeze}
 use Rattle.plan.specs.Limits.{cellValues}
 use Rattle.network.specs.Network.{resourceAt}
-use Rattle.tally.specs.Tables.{problemIn}
+use Rattle.candidates.specs.Tables.{problemIn}
 use Rattle.candidates.specs.Work.{endAt, readyAt, freeAt, Timed, opens, Released, readyFrom, freeFrom}
 use Rattle.tally.specs.Leaf.{Fit}
 use Rattle.search.specs.Standing.{AtState, Beside, Position, position}
-use Rattle.tally.proofs.Columns.{resource-at}
+use Rattle.candidates.proofs.Columns.{resource-at}
 use Rattle.search.proofs.Parts.{store-either}
 use Rattle.search.proofs.Child.{below, waits, finish-early, child, no-release, no-release-of}
 

@@ -8,11 +8,12 @@ use lib.ListN.{length, getD}
 use Rattle.plan.specs.Limits.{longestDuration, mostResources}
 use Rattle.sets.specs.Sets.{most, has, size, width}
 use Rattle.scan.specs.Model.{State, ready, isOpen, leaves, lastEnd}
-use Rattle.network.specs.Network.{durationAt, resourceAt, predsAt}
+use Rattle.network.specs.Network.{durationAt, resourceAt, predsAt, linkOf}
 use Rattle.candidates.specs.Work.{endAt, readyAt, freeAt, Timed}
-use Rattle.tally.specs.Tables.{problemIn}
+use Rattle.candidates.specs.Tables.{problemIn}
 use Rattle.tally.specs.Seen.{Kept, keptOf, IsTally, seenIn}
 use Rattle.tally.specs.Leaf.{Fit}
+use Rattle.orders.specs.Book.{Rivals}
 
 -- Where the search stands: what is left, the candidates of that, the latest end so far, and the working array.
 pub record Position : Type 0 where
@@ -49,9 +50,10 @@ pub record AtState (t : List ℕ) (x : Position) (s : State) : Type 0 where
   pub ends-wide : length (s .ends) ≡ width
   pub avail-wide : length (s .avail) ≡ mostResources
 
--- What each step of the search starts from.
-pub record Standing (t : List ℕ) (x : Position) (cells : List ℕ) : Type 0 where
+-- What each step of the search starts from; b is the book of the orders searched so far.
+pub record Standing (t b : List ℕ) (x : Position) (cells : List ℕ) : Type 0 where
   pub fit : Fit t
+  pub rivals : Rivals (problemIn t .preds) (linkOf t) b
   pub timed : Timed t (x .work)
   pub tally : IsTally cells
   pub state : State
@@ -66,12 +68,12 @@ pub record Beside (t : List ℕ) (x : Position) (w : List ℕ) : Type 0 where
   pub free : (r : ℕ) → r < mostResources → freeAt w r ≡ freeAt (x .work) r
 
 -- Every schedule below the state s has been seen, in order.
-pub record Searched (t : List ℕ) (s : State) (k : Kept) (cells area : List ℕ) : Type 0 where
+pub record Searched (t b : List ℕ) (s : State) (k : Kept) (cells area : List ℕ) : Type 0 where
   pub tally : IsTally cells
-  pub kept : keptOf cells area ≡ foldl (seenIn t) k (leaves (problemIn t) (suc (size (s .left) most)) s)
+  pub kept : keptOf cells area ≡ foldl (seenIn t b) k (leaves (problemIn t) (suc (size (s .left) most)) s)
 
 -- The search below the state at which it stands: what means something there is as it was, and every schedule has been
 -- seen.
-pub record Explored (t : List ℕ) (x : Position) (k : Kept) (w cells area : List ℕ) : Type 0 where
+pub record Explored (t b : List ℕ) (x : Position) (k : Kept) (w cells area : List ℕ) : Type 0 where
   pub beside : Beside t x w
-  pub searched : (s : State) → AtState t x s → Searched t s k cells area
+  pub searched : (s : State) → AtState t x s → Searched t b s k cells area

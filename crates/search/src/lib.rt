@@ -11,6 +11,7 @@ use candidates::least_key;
 use candidates::opened;
 use candidates::release;
 use network::CAP;
+use network::LINK;
 use network::Table;
 use network::resource_of;
 use sets::after_lowest;
@@ -20,6 +21,7 @@ use tally::Cells;
 use tally::Tally;
 use tally::cells_of;
 use tally::leave;
+use tally::leave_new;
 use tally::tally_of;
 use variant::Variant;
 ghost use mathlib.Core.Path.{_≡_};
@@ -27,11 +29,14 @@ ghost use Prim.Native.Nat.{_<_, _+_};
 ghost use Rattle.sets.specs.Lowest.{afterLowest};
 ghost use Rattle.variant.specs.Tables.{Tabled};
 ghost use Rattle.tally.specs.Seen.{kept, keptOf, allSeen};
+ghost use Rattle.scan.specs.Model.{problemOf};
 ghost use Rattle.candidates.specs.Work.{Uncontested};
+ghost use Rattle.orders.specs.Book.{Rivals, isNewBy};
 ghost use Rattle.search.specs.Standing.{position, Standing, Explored};
 ghost use Rattle.variant.specs.declared.Variant.{Variant};
 
-// The last activity left is frozen.
+// The last activity left is frozen. A variant without a lower one that has its activities is spared the test for new
+// schedules, here and below.
 fn finish(
     table: &Table,
     left: u32,
@@ -39,19 +44,25 @@ fn finish(
     latest: u32,
     work: &mut Work,
     cells: &mut Cells,
+    book: &[u32],
     area: &mut [u16],
 )
-    requires { ⌜ Standing (now table) (position left cands latest (now work)) (now cells)
+    requires { ⌜ Standing (now table) (now book) (position left cands latest (now work)) (now cells)
         × (0 < left) × (afterLowest left ≡ 0) ⌝ }
     ensures { λ _.
-        ⌜ Explored (now (table .entry)) (position left cands latest (now (work .entry)))
+        ⌜ Explored (now (table .entry)) (now (book .entry)) (position left cands latest (now (work .entry)))
         (keptOf (now (cells .entry)) (now (area .entry))) (now (work .exit)) (now (cells .exit)) (now (area .exit)) ⌝ }
 {
     if cands != 0 {
         let i = lowest(cands);
         let end = earliest_end(table, work, i);
         work[i] = end;
-        leave(table, work, later(latest, end), cells, area);
+        let last = later(latest, end);
+        if table[LINK] == 0 {
+            leave(table, work, last, cells, area);
+        } else {
+            leave_new(table, work, last, cells, book, area);
+        }
     }
 }
 
@@ -63,12 +74,13 @@ fn settle(
     latest: u32,
     work: &mut Work,
     cells: &mut Cells,
+    book: &[u32],
     area: &mut [u16],
 )
-    requires { ⌜ Standing (now table) (position left cands latest (now work)) (now cells)
+    requires { ⌜ Standing (now table) (now book) (position left cands latest (now work)) (now cells)
         × Uncontested (now table) left ⌝ }
     ensures { λ _.
-        ⌜ Explored (now (table .entry)) (position left cands latest (now (work .entry)))
+        ⌜ Explored (now (table .entry)) (now (book .entry)) (position left cands latest (now (work .entry)))
         (keptOf (now (cells .entry)) (now (area .entry))) (now (work .exit)) (now (cells .exit)) (now (area .exit)) ⌝ }
 {
     let mut last = latest;
@@ -83,7 +95,11 @@ fn settle(
         open = release(table, work, rest, after_lowest(open), i);
     }
     if rest == 0 {
-        leave(table, work, last, cells, area);
+        if table[LINK] == 0 {
+            leave(table, work, last, cells, area);
+        } else {
+            leave_new(table, work, last, cells, book, area);
+        }
     }
 }
 
@@ -96,12 +112,13 @@ fn descend(
     known: u32,
     work: &mut Work,
     cells: &mut Cells,
+    book: &[u32],
     area: &mut [u16],
 )
-    requires { ⌜ Standing (now table) (position left cands latest (now work)) (now cells)
+    requires { ⌜ Standing (now table) (now book) (position left cands latest (now work)) (now cells)
         × (0 < known → 0 < afterLowest left) ⌝ }
     ensures { λ _.
-        ⌜ Explored (now (table .entry)) (position left cands latest (now (work .entry)))
+        ⌜ Explored (now (table .entry)) (now (book .entry)) (position left cands latest (now (work .entry)))
         (keptOf (now (cells .entry)) (now (area .entry))) (now (work .exit)) (now (cells .exit)) (now (area .exit)) ⌝ }
 {
     if cells[COUNT] > table[CAP] as u64 {
@@ -109,7 +126,7 @@ fn descend(
     }
     let many = contests(table, left, known);
     if many == 0 {
-        settle(table, left, cands, latest, work, cells, area);
+        settle(table, left, cands, latest, work, cells, book, area);
         return;
     }
     let key = least_key(table, work, cands);
@@ -127,27 +144,47 @@ fn descend(
             let next = release(table, work, fewer, sets::without(cands, i), i);
             let last = later(latest, end);
             if after_lowest(fewer) == 0 {
-                finish(table, fewer, next, last, work, cells, area);
+                finish(table, fewer, next, last, work, cells, book, area);
             } else {
-                descend(table, fewer, next, last, many - 1, work, cells, area);
+                descend(table, fewer, next, last, many - 1, work, cells, book, area);
             }
             work[FREE + r] = free;
         }
     }
 }
 
-// Every active schedule of the variant with that number is counted, until there are more than `cap`; the one that
-// ends first of all so far is kept, and each is written as a row where the area is long enough.
-pub fn search(x: Variant, number: u32, cap: u32, tally: Tally, area: &mut [u16]) -> Tally
-    requires { ⌜ Tabled x number ⌝ }
+// Every active schedule of the variant with that number that none of the orders up to the link has is counted, until
+// there are more than `cap`; the one that ends first of all so far is kept, and each is written as a row where the area
+// is long enough.
+pub fn search(
+    x: Variant,
+    number: u32,
+    cap: u32,
+    link: u32,
+    tally: Tally,
+    book: &[u32],
+    area: &mut [u16],
+) -> Tally
+    requires { ⌜ Tabled x number × Rivals (problemOf x .preds) link (now book) ⌝ }
     ensures { λ r.
-        ⌜ kept r (now (area .exit)) ≡ allSeen x number cap (kept tally (now (area .entry))) ⌝ }
+        ⌜ kept r (now (area .exit))
+        ≡ allSeen x number cap (isNewBy (problemOf x) link (now (book .entry))) (kept tally (now (area .entry))) ⌝ }
 {
-    let table = network::network(x, number, cap);
+    let table = network::network(x, number, cap, link);
     let present = x.present;
     let cands = opened(&table, present);
     let mut work = [0; WORK_CELLS];
     let mut cells = cells_of(tally);
-    descend(&table, present, cands, 0, 0, &mut work, &mut cells, area);
+    descend(
+        &table,
+        present,
+        cands,
+        0,
+        0,
+        &mut work,
+        &mut cells,
+        book,
+        area,
+    );
     tally_of(&cells)
 }

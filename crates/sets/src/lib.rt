@@ -9,6 +9,9 @@ ghost use Rattle.sets.specs.Lowest.{lowestOf, afterLowest};
 // The bits of a word. What is kept for each member has a place for each of them, so that any bit is an index.
 pub const WIDTH: usize = 32;
 
+// The set of all activity numbers.
+pub const EVERY: u32 = 16777215;
+
 // The set of activity i alone.
 pub fn single(i: usize) -> u32
     requires { ⌜ i < most ⌝ }

@@ -1,2 +1,3 @@
 -- The variants are swept one by one.
+pub mod Booking
 pub mod Turns

@@ -11,7 +11,9 @@ use lib.Seq.{take-at, drop-append-add, drop-drop}
 use borrow.Author.Tests.{le-leb}
 use Rattle.base.specs.Lists.{gather}
 use Rattle.base.proofs.Bools.{cond-true}
-use Rattle.scan.specs.Model.{Problem, starts, found, problemOf, scanOf}
+use Rattle.base.proofs.Lists.{map-map}
+use Rattle.scan.specs.Model.{starts, problemOf}
+use Rattle.scan.specs.Union.{newOf}
 use Rattle.scan.proofs.Starts.{starts-length}
 use Rattle.tally.specs.Seen.{Kept, rowPlaced, foundRow, counted}
 use Rattle.tally.specs.Entries.{Entry, entryOf, entries, entriesBelow, step, run}
@@ -30,19 +32,14 @@ rows acts es = map (row acts) es
 pub row-length : (acts : ℕ) (e : Entry) → length (row acts e) ≡ suc acts
 row-length acts e = ap suc (starts-length (e .problem) (e .ends) acts)
 
-variant-rows : (p : Problem) (v acts : ℕ) (leaves : List (List ℕ))
-    → rows acts (map (entryOf p v) leaves) ≡ map (v ∷_) (map (starts p acts) leaves)
-variant-rows p v acts [] = refl
-variant-rows p v acts (x ∷ xs) = ap ((v ∷ starts p acts x) ∷_) (variant-rows p v acts xs)
-
--- Variant by variant they are what the model finds.
+-- Variant by variant they are those of the schedules that count.
 pub rows-below : (x : ℕ → Variant) (acts n : ℕ)
-    → rows acts (entriesBelow x n) ≡ gather n (λ v. map (v ∷_) (found (problemOf (x v)) acts (x v .present)))
-unfolding gather entries found
+    → rows acts (entriesBelow x n) ≡ gather n (λ v. map (λ ends. v ∷ starts (problemOf (x v)) acts ends) (newOf x v))
+unfolding gather entries
 rows-below x acts zero = refl
 rows-below x acts (suc n) =
     map-append (row acts) (entriesBelow x n) (entries x n)
-    ∙ ap₂ _++_ (rows-below x acts n) (variant-rows (problemOf (x n)) n acts (scanOf (x n)))
+    ∙ ap₂ _++_ (rows-below x acts n) (map-map (row acts) (entryOf (problemOf (x n)) n) (newOf x n))
 
 -- One row is placed
 

@@ -1,5 +1,4 @@
--- The schedules that the search finds, each with the problem and the number of its variant, and what is kept after
--- them.
+-- The schedules that count, each with the problem and the number of its variant, and what is kept after them.
 use Prim.Native.Nat.{ℕ, zero, suc, _+_, _≤_, _<_}
 use native.Mathlib.Decide.{decLe}
 use native.Mathlib.Numerals.{add-one}
@@ -11,7 +10,8 @@ use borrow.Author.Tests.{le-leb, lt-leb}
 use Rattle.base.specs.Lists.{gather}
 use Rattle.base.proofs.Bools.{cond-true, cond-false}
 use Rattle.base.proofs.Lists.{gather-is, gather-mem}
-use Rattle.scan.specs.Model.{scanOf, problemOf}
+use Rattle.scan.specs.Model.{problemOf}
+use Rattle.scan.specs.Union.{newOf}
 use Rattle.tally.specs.Seen.{Kept, settingOf, counted, seen}
 use Rattle.tally.specs.Entries.{Entry, entryOf, entries, entriesBelow, step, run}
 use Rattle.variant.specs.declared.Variant.{Variant}
@@ -19,13 +19,13 @@ use Rattle.variant.specs.declared.Variant.{Variant}
 -- The entries of each variant v, which x v holds in tables.
 module _ (x : ℕ → Variant) where
   pub entry-is : (n : ℕ) (e : Entry) → List·Memᴰ e (entriesBelow x n)
-      → (v : ℕ) × (v < n) × (ends : List ℕ) × List·Memᴰ ends (scanOf (x v)) × (entryOf (problemOf (x v)) v ends ≡ e)
+      → (v : ℕ) × (v < n) × (ends : List ℕ) × List·Memᴰ ends (newOf x v) × (entryOf (problemOf (x v)) v ends ≡ e)
   unfolding entries
   entry-is n e m =
       let (v, l, k) = gather-is n (entries x) m in
-      let (ends, y, q) = Memᴰ·of-map (entryOf (problemOf (x v)) v) (scanOf (x v)) k in (v, l, ends, y, q)
+      let (ends, y, q) = Memᴰ·of-map (entryOf (problemOf (x v)) v) (newOf x v) k in (v, l, ends, y, q)
 
-  pub entry-in : (n v : ℕ) (ends : List ℕ) → v < n → List·Memᴰ ends (scanOf (x v))
+  pub entry-in : (n v : ℕ) (ends : List ℕ) → v < n → List·Memᴰ ends (newOf x v)
       → List·Memᴰ (entryOf (problemOf (x v)) v ends) (entriesBelow x n)
   unfolding entries
   entry-in n v ends l m = gather-mem n (entries x) v l (Memᴰ·map (entryOf (problemOf (x v)) v) m)
@@ -62,12 +62,12 @@ module _ (acts cap : ℕ) where
     run-none = refl
 
     pub run-next : (v : ℕ) → run acts cap k (entriesBelow x (v + 1))
-        ≡ foldl (seen (problemOf (x v)) (settingOf v acts cap)) (run acts cap k (entriesBelow x v)) (scanOf (x v))
+        ≡ foldl (seen (problemOf (x v)) (settingOf v acts cap)) (run acts cap k (entriesBelow x v)) (newOf x v)
     unfolding gather entries
     run-next v =
         ap after (add-one v)
         ∙ run-append k (entriesBelow x v) (entries x v)
-        ∙ foldl-map (entryOf (problemOf (x v)) v) (step acts cap) (scanOf (x v)) (after v)
+        ∙ foldl-map (entryOf (problemOf (x v)) v) (step acts cap) (newOf x v) (after v)
 
     -- Above the cap after the first v variants: what is kept then is what is kept after all.
     pub run-done : (v n : ℕ) → v ≤ n → cap < run acts cap k (entriesBelow x v) .tally .count

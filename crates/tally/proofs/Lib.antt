@@ -1,5 +1,4 @@
 -- What is kept of a schedule that is found, and after all schedules of all variants.
-pub mod Columns
 pub mod Rows
 pub mod Entries
 pub mod Count

@@ -22,11 +22,11 @@ use Rattle.scan.proofs.Starts.{starts-length, starts-at}
 use Rattle.plan.specs.Limits.{cellValues, wordValues}
 use Rattle.timetable.specs.Mark.{places}
 use Rattle.network.specs.Network.{variantOf, actsOf, durationAt}
-use Rattle.tally.specs.Tables.{problemIn}
+use Rattle.candidates.specs.Tables.{problemIn}
 use Rattle.tally.specs.Seen.{Setting, rowPlaced, foundRow, IsTally, tallyOf, keptOf, better, seen, counted}
 use Rattle.tally.specs.Seen.{countCell, bestEndCell, bestVariantCell, startsFrom, tallyCells, rowIn, rankIn}
 use Rattle.tally.specs.Seen.{rankOf, rankKept}
-use Rattle.tally.proofs.Columns.{duration-at}
+use Rattle.candidates.proofs.Columns.{duration-at}
 use Rattle.sets.specs.Sets.{width}
 
 -- ---- starts

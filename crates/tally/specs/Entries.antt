@@ -1,9 +1,9 @@
--- The schedules that the search finds, each with the problem and the number of its variant, and what is kept after
--- them.
+-- The schedules that count, each with the problem and the number of its variant, and what is kept after them.
 use Prim.Native.Nat.{ℕ}
 use mathlib.Core.List.{List, map, foldl}
 use Rattle.base.specs.Lists.{gather}
-use Rattle.scan.specs.Model.{Problem, scanOf, problemOf}
+use Rattle.scan.specs.Model.{Problem, problemOf}
+use Rattle.scan.specs.Union.{newOf}
 use Rattle.tally.specs.Seen.{Kept, settingOf, seen}
 use Rattle.variant.specs.declared.Variant.{Variant}
 
@@ -18,7 +18,7 @@ entryOf problem variant ends = record { problem = problem; variant = variant; en
 -- The entries of each variant v, which x v holds in tables.
 module _ (x : ℕ → Variant) where
   unfoldable pub entries : ℕ → List Entry
-  entries v = map (entryOf (problemOf (x v)) v) (scanOf (x v))
+  entries v = map (entryOf (problemOf (x v)) v) (newOf x v)
 
   -- Those of the first n variants.
   abbrev pub entriesBelow : ℕ → List Entry

@@ -6,7 +6,7 @@ use Rattle.plan.specs.Limits.{longestDuration, cellValues, wordValues}
 use Rattle.sets.specs.Sets.{most}
 use Rattle.timetable.specs.Mark.{places}
 use Rattle.scan.specs.Model.{lastEnd}
-use Rattle.network.specs.Network.{durationAt, capOf, variantOf, actsOf, Linked}
+use Rattle.network.specs.Network.{durationAt, capOf, variantOf, actsOf, Linked, Grouped}
 use Rattle.candidates.specs.Work.{endAt, Timed}
 use Rattle.tally.specs.Seen.{IsTally}
 
@@ -18,6 +18,7 @@ pub record Ended (t w : List ℕ) : Type 0 where
 -- The table is whole, and its numbers are in range.
 pub record Fit (t : List ℕ) : Type 0 where
   pub linked : Linked t
+  pub grouped : Grouped t
   pub short : (i : ℕ) → i < most → durationAt t i ≤ longestDuration
   pub acts : actsOf t ≤ places
   pub variant : variantOf t < cellValues

@@ -1,5 +1,4 @@
 -- What is kept of the schedules that are found.
-pub mod Tables
 pub mod Seen
 pub mod Leaf
 pub mod Entries

@@ -1,16 +1,18 @@
 -- What becomes of each schedule that the search finds: it is counted, kept if it comes before the one kept, and
 -- written as a row where the area has room for it.
 use Prim.Native.Nat.{ℕ, _+_, _*_, _<_}
-use mathlib.Core.Bool.{cond}
+use mathlib.Core.Bool.{Bool, cond}
 use mathlib.Core.List.{List, _∷_, _++_, foldl}
 use mathlib.Core.Path.{_≡_}
 use lib.Dec.{leb}
 use lib.ListN.{length, getD, take, drop}
+use Rattle.base.specs.Lists.{keep}
 use Rattle.base.specs.Order.{isBefore}
 use Rattle.scan.specs.Model.{lastEnd, Problem, starts, scanOf, problemOf}
 use Rattle.timetable.specs.Mark.{places, noStarts}
-use Rattle.network.specs.Network.{capOf, variantOf, actsOf}
-use Rattle.tally.specs.Tables.{problemIn}
+use Rattle.network.specs.Network.{capOf, variantOf, actsOf, linkOf}
+use Rattle.candidates.specs.Tables.{problemIn}
+use Rattle.orders.specs.Book.{isNewBy}
 use Rattle.tally.specs.declared.Tally.{Tally}
 use Rattle.plan.specs.Limits.{cellValues}
 use Rattle.variant.specs.declared.Variant.{Variant}
@@ -113,9 +115,9 @@ counted p q k ends =
 unfoldable pub seen : Problem → Setting → Kept → List ℕ → Kept
 seen p q k ends = cond (leb (k .tally .count) (q .cap)) (counted p q k ends) k
 
--- Every schedule of the variant with that number, in the order in which the search finds them.
-unfoldable pub allSeen : Variant → ℕ → ℕ → Kept → Kept
-allSeen x number cap k = foldl (seen (problemOf x) (settingOf number (x .acts) cap)) k (scanOf x)
+-- Every new schedule of the variant with that number, in the order in which the search finds them.
+unfoldable pub allSeen : Variant → ℕ → ℕ → (List ℕ → Bool) → Kept → Kept
+allSeen x number cap isNew k = foldl (seen (problemOf x) (settingOf number (x .acts) cap)) k (keep isNew (scanOf x))
 
 -- The same by the search's table.
 abbrev pub rowIn : List ℕ → List ℕ → List ℕ
@@ -124,5 +126,9 @@ rowIn t = foundRow (problemIn t) (settingIn t)
 abbrev pub rankIn : List ℕ → List ℕ → List ℕ
 rankIn t = rankOf (problemIn t) (variantOf t)
 
-abbrev pub seenIn : List ℕ → Kept → List ℕ → Kept
-seenIn t = seen (problemIn t) (settingIn t)
+-- One that is not new is passed over; b is the book of the orders searched so far.
+abbrev pub isNewIn : List ℕ → List ℕ → List ℕ → Bool
+isNewIn t b = isNewBy (problemIn t) (linkOf t) b
+
+abbrev pub seenIn : List ℕ → List ℕ → Kept → List ℕ → Kept
+seenIn t b k ends = cond (isNewIn t b ends) (seen (problemIn t) (settingIn t) k ends) k

@@ -14,11 +14,12 @@ ghost use lib.ListN.{length, take, drop};
 ghost use Rattle.base.specs.Order.{isBefore};
 ghost use Rattle.timetable.specs.Mark.{places};
 ghost use Rattle.scan.specs.Model.{startOf, starts};
-ghost use Rattle.network.specs.Network.{actsOf};
-ghost use Rattle.tally.specs.Tables.{problemIn};
+ghost use Rattle.network.specs.Network.{actsOf, linkOf};
+ghost use Rattle.orders.specs.Book.{Rivals};
+ghost use Rattle.candidates.specs.Tables.{problemIn};
 ghost use Rattle.plan.specs.Limits.{cellValues, wordValues};
 ghost use Rattle.tally.specs.Seen.{startsFrom, rowPlaced, settingIn, rowIn, keptOf, IsTally, tallyOf, better};
-ghost use Rattle.tally.specs.Seen.{seenIn, noTally, rankIn, rankKept};
+ghost use Rattle.tally.specs.Seen.{seen, seenIn, noTally, rankIn, rankKept};
 ghost use Rattle.tally.specs.Leaf.{Ended, Fit, Leaf};
 
 // How many schedules were found, and the first shortest of them: its latest end, its variant and its starts.
@@ -176,11 +177,34 @@ pub fn leave(table: &Table, work: &Work, latest: u32, cells: &mut Cells, area: &
     ensures { λ _. ⌜ IsTally (now (cells .exit)) ⌝ }
     ensures { λ _.
         ⌜ keptOf (now (cells .exit)) (now (area .exit))
-        ≡ seenIn (now (table .entry)) (keptOf (now (cells .entry)) (now (area .entry))) (now (work .entry)) ⌝ }
+        ≡ seen (problemIn (now (table .entry))) (settingIn (now (table .entry)))
+        (keptOf (now (cells .entry)) (now (area .entry))) (now (work .entry)) ⌝ }
 {
     if cells[COUNT] <= table[CAP] as u64 {
         list(table, work, cells[COUNT], area);
         rank(table, work, latest, cells);
+    }
+}
+
+// A schedule that a lower variant has is passed over.
+pub fn leave_new(
+    table: &Table,
+    work: &Work,
+    latest: u32,
+    cells: &mut Cells,
+    book: &[u32],
+    area: &mut [u16],
+)
+    requires { ⌜ Leaf (now table) (now work) latest (now cells)
+        × Rivals (problemIn (now table) .preds) (linkOf (now table)) (now book) ⌝ }
+    ensures { λ _. ⌜ IsTally (now (cells .exit)) ⌝ }
+    ensures { λ _.
+        ⌜ keptOf (now (cells .exit)) (now (area .exit))
+        ≡ seenIn (now (table .entry)) (now (book .entry)) (keptOf (now (cells .entry)) (now (area .entry)))
+        (now (work .entry)) ⌝ }
+{
+    if orders::is_new(table, work, book) {
+        leave(table, work, latest, cells, area);
     }
 }
 

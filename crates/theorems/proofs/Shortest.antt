@@ -2,11 +2,11 @@
 use Prim.Native.Nat.{ℕ, _≤_, _<_}
 use native.Mathlib.Omega.{arith}
 use mathlib.Core.Bool.{Bool}
-use mathlib.Core.List.{List, _∷_, perm-ext-iff-of-nodup}
+use mathlib.Core.List.{List, _∷_, map, perm-ext-iff-of-nodup}
 use mathlib.Core.Logic.{∥∥₁-map}
 use mathlib.Core.Path.{_≡_, sym, ap, _∙_, subst}
 use borrow.Author.Tests.{le-leb, lt-leb}
-use lib.ListN.{length}
+use lib.ListN.{length, length-map}
 use Rattle.base.proofs.Lists.{perm-length}
 use Rattle.plan.specs.Plan.{Plan}
 use Rattle.plan.specs.declared.Refusal.the-variants.{OverCap}
@@ -23,7 +23,7 @@ use Rattle.variant.specs.Words.{Present, Keeps}
 use Rattle.variant.proofs.RoundTrip.{variant-below}
 use Rattle.variant.proofs.Words.{keeps-is, keeps-of, session-means}
 use Rattle.judge.specs.Judge.{accepts}
-use Rattle.answers.specs.Shortest.{makespanIn, firstShortest, bestRow, noBest, bestWithin, bestBy}
+use Rattle.answers.specs.Shortest.{makespanIn, rowStarts, firstShortest, bestRow, noBest, bestWithin, bestBy}
 use Rattle.plan_exact.proofs.Meaning.{pairs-listing, best-first}
 use Rattle.plan_exact.proofs.Pairs.{pair-is, pair-checks, pair-span}
 use Rattle.plan_exact.proofs.Shortest.{First, first-shortest, first-active, first-least, first-chains, first-loads}
@@ -35,16 +35,17 @@ module _ (p : Plan) (t : Term) (valid : Valid p t) where
   pub active-count : (n : ℕ) → ActiveSessions p t n → n ≡ pairCount p t
   unfolding pairCount
   active-count n a =
-      let mine = a .listing in
       let all = pairs-listing p t valid in
       let perm =
-      perm-ext-iff-of-nodup (mine .once) (all .once) .1
-      (λ row. (
-        λ k. ∥∥₁-map k (λ m. all .exactly row .1 (mine .exactly row .0 m)),
-        λ k. ∥∥₁-map k (λ m. mine .exactly row .1 (all .exactly row .0 m)),
+      perm-ext-iff-of-nodup (a .once) (all .once) .1
+      (λ starts. (
+        λ k. ∥∥₁-map k (λ m. all .union starts .1 (a .exactly starts .0 m)),
+        λ k. ∥∥₁-map k (λ m. a .exactly starts .1 (all .union starts .0 m)),
       ))
       in
-      sym (a .count) ∙ perm-length (a .rows) (pairs p t) perm
+      sym (a .count)
+      ∙ perm-length (a .sessions) (map rowStarts (pairs p t)) perm
+      ∙ length-map (pairs p t) rowStarts
 
   -- Feasible by the test and in words.
   module _ (v : ℕ) (below : v < variantCount t) where

@@ -69,7 +69,8 @@ demand-1 s = (unfit-turned-back s, untouched s)
 -- Definition 2, each once per variant. A variant written out reads back as that variant."
 --
 -- The variants are the reduced terms of document 000; what LIST leaves in the area when it answers n rows is that
--- listing; and the bytes that WRITE leaves are accepted as the variant.
+-- listing, in which a session that several variants have is there once, under the lowest; and the bytes that WRITE leaves
+-- are accepted as the variant.
 pub demand-2 : (s : List ℕ) (p : Plan) (t : Term) → judge s ≡ accepts p t
     → ((w : Term) → List·Memᴰ w (variants t) ↔ Reduced t w)
     × ((cap n : ℕ) (before after : List ℕ) → listOf s cap before ≡ record { answer = Listed n; area = after }
@@ -82,10 +83,11 @@ demand-2 s p t accepted = (
   λ v n area after. round-trip s v area n after,
 )
 
--- The listing that LIST writes is the list of pairs: exactly the active sessions of the variants, increasing strictly
--- by the variant and then by the starts of the present activities, and so each once.
-pub listing-ordered : (p : Plan) (t : Term) → Valid p t → Listing p t (pairs p t)
-listing-ordered = pairs-listing
+-- The listing that LIST writes is the list of pairs: every active session of every variant, under the lowest variant for
+-- which it is active, increasing strictly by the variant and then by the starts of the present activities. Its sessions
+-- are the plain union of document 000, and none of them is there twice over the whole plan.
+pub listing-union : (p : Plan) (t : Term) → Valid p t → Listing p t (pairs p t)
+listing-union = pairs-listing
 
 -- 3. "For every accepted plan and every cap, the planner asked for a shortest session stops without one exactly if
 -- the variants together have more active sessions than the cap. Otherwise the session handed back is feasible for the

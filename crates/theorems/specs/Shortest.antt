@@ -1,6 +1,6 @@
 -- A shortest session in the words of the mission.
 use Prim.Native.Nat.{ℕ, _≤_, _<_}
-use mathlib.Core.List.{List}
+use mathlib.Core.List.{List, List·Memᴰ, List·Nodup}
 use mathlib.Core.Logic.{_↔_}
 use mathlib.Core.Path.{_≡_}
 use lib.ListN.{length}
@@ -13,13 +13,14 @@ use Rattle.schedule.specs.Sessions.{startsOf}
 use Rattle.variant.specs.Project.{variantAt, projectOf}
 use Rattle.variant.specs.Words.{Keeps, Session}
 use Rattle.answers.specs.Shortest.{makespanIn}
-use Rattle.answers.specs.Words.{Listing}
+use Rattle.answers.specs.Words.{ActiveForSome}
 
--- The variants together have n active sessions: the listing of them has n rows.
+-- The variants together have n active sessions: so many are active for some variant.
 pub record ActiveSessions (p : Plan) (t : Term) (n : ℕ) : Type 0 where
-  pub rows : List (List ℕ)
-  pub listing : Listing p t rows
-  pub count : length rows ≡ n
+  pub sessions : List (List ℕ)
+  pub exactly : (starts : List ℕ) → List·Memᴰ starts sessions ↔ ActiveForSome p t starts
+  pub once : List·Nodup sessions
+  pub count : length sessions ≡ n
 
 -- S is a feasible session of variant v, starts being any whole ticks from 0.
 pub record SessionOfVariant (p : Plan) (t : Term) (v : ℕ) (S : Starts) : Type 0 where

@@ -86,6 +86,12 @@ module _ {p : Plan} {t : Term} {v : ℕ} (c : HasVariant p t v) {x : Variant} (h
         ap (λ (y : ℕ). has y i) (past (x .preds) (x .acts) j (omega arith)) ∙ has-none i
         ∙ by-bool (precedes w i j) (λ y. absurd (l (member-acts j (precedes-members w i j y .1)))) sym)
 
+    -- What stands past the plan's activities is 0 there.
+    pub preds-whole : (j : ℕ) → j < most → getD (x .preds) j 0 ≡ entryIn x (x .preds) j
+    preds-whole j l =
+        same most (getD (x .preds) j 0) (entryIn x (x .preds) j) (held .order .low j l) (preds-low j)
+        (λ i k. held .order .before i j l ∙ sym (preds-are i j))
+
     pub short : (i : ℕ) → entryIn x (x .duration) i ≤ longestDuration
     short i =
         by-cases

@@ -57,7 +57,7 @@ fn of_count(a: CountAnswer) -> [u64; 4]
     ensures { λ c. ⌜ c ≡ countCells a ⌝ }
 {
     match a {
-        CountAnswer::Counted(pairs) => [0, pairs, 0, 0],
+        CountAnswer::Counted(sessions) => [0, sessions, 0, 0],
         CountAnswer::Refused(r) => refused(r),
     }
 }

@@ -41,7 +41,7 @@ pub trait Planner {
     /// Is the timetable a feasible schedule of the variant?
     fn check(&self, file: &[u8], variant: u64, starts: &Timetable) -> Answer<bool>;
 
-    /// The number of pairs of a variant and an active schedule of it.
+    /// The number of active schedules of all variants, each counted once.
     fn count(&self, file: &[u8], cap: u32) -> Answer<u64>;
 
     /// Writes the rows at the front of the area, a variant and then a start for each activity; answers their number. They

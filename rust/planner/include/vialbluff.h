@@ -13,11 +13,16 @@
  *   5       0                   some variant has an activity twice
  *   6       0                   more than 4096 variants
  *   9       0                   no such variant
- *   7       0                   more pairs than the cap
+ *   7       0                   more active schedules than the cap
  *   8       cells or bytes      area too short
+ *
+ * A schedule is its present activities and their starts. One that is active for several variants counts once, under the
+ * lowest of them.
  *
  * A refusal changes no area. Success changes only what is named at the call. A timetable has a start for each of 24
  * activity numbers, and VIALBLUFF_ABSENT at an absent one. No call keeps a pointer; areas do not overlap.
+ *
+ * A call needs at most 640 KiB of stack: COUNT, LIST and BEST keep the order of each variant there.
  */
 #ifndef VIALBLUFF_H
 #define VIALBLUFF_H
@@ -43,16 +48,17 @@ void vialbluff_write(const uint8_t *file, size_t file_len, uint32_t variant,
 void vialbluff_check(const uint8_t *file, size_t file_len, uint32_t variant,
                      const uint16_t starts[VIALBLUFF_PLACES], uint64_t out[4]);
 
-/* out[1] the number of pairs of a variant and an active schedule of it. */
+/* out[1] the number of active schedules of all variants. */
 void vialbluff_count(const uint8_t *file, size_t file_len, uint32_t cap, uint64_t out[4]);
 
-/* Writes a row for each pair at the front of the area: the variant and then a start for each activity; out[1] the rows.
- * They stand by variant, then by the start of activity 0, then of activity 1 and so on through the present ones. */
+/* Writes a row for each active schedule at the front of the area: the lowest variant that has it and then a start for
+ * each activity; out[1] the rows. They stand by variant, then by the start of activity 0, then of activity 1 and so on
+ * through the present ones. */
 void vialbluff_list(const uint8_t *file, size_t file_len, uint32_t cap,
                     uint16_t *area, size_t area_len, uint64_t out[4]);
 
 /* Writes the schedule of the first shortest of LIST's rows into `starts`; out[1] its variant, out[2] its makespan, out[3]
- * the number of pairs. */
+ * the number of rows. */
 void vialbluff_best(const uint8_t *file, size_t file_len, uint32_t cap,
                     uint16_t starts[VIALBLUFF_PLACES], uint64_t out[4]);
 

@@ -17,13 +17,13 @@ extern "C" {
     // 0, 1 for yes and 0 for no
     fn vialbluff_check(file: *const u8, file_len: usize, variant: u32, starts: *const Timetable, out: *mut Out);
 
-    // 0, pairs
+    // 0, sessions
     fn vialbluff_count(file: *const u8, file_len: usize, cap: u32, out: *mut Out);
 
     // 0, rows
     fn vialbluff_list(file: *const u8, file_len: usize, cap: u32, area: *mut u16, area_len: usize, out: *mut Out);
 
-    // 0, variant, makespan, pairs
+    // 0, variant, makespan, sessions
     fn vialbluff_best(file: *const u8, file_len: usize, cap: u32, starts: *mut Timetable, out: *mut Out);
 }
 
@@ -66,8 +66,8 @@ impl Planner for Linked {
     }
 
     fn count(&self, file: &[u8], cap: u32) -> Answer<u64> {
-        let [pairs, ..] = answer(|out| unsafe { vialbluff_count(file.as_ptr(), file.len(), cap, out) })?;
-        Ok(pairs)
+        let [sessions, ..] = answer(|out| unsafe { vialbluff_count(file.as_ptr(), file.len(), cap, out) })?;
+        Ok(sessions)
     }
 
     fn list(&self, file: &[u8], cap: u32, area: &mut [u16]) -> Answer<u64> {

@@ -63,7 +63,7 @@ pub fn first_shortest(plan: &Plan, rows: &[Vec<u16>]) -> (Best, Timetable) {
     (Best { variant: u64::from(row[0]), makespan: makespan_of(plan, row), count: rows.len() as u64 }, starts)
 }
 
-/// The reference as a planner. It may take long where the pairs are many.
+/// The reference as a planner. It may take long where the sessions are many.
 pub struct Reference;
 
 impl Reference {
@@ -72,7 +72,7 @@ impl Reference {
         let mut steps = 4000;
         loop {
             match rows(&plan, u64::from(cap), steps) {
-                Rows::All(rows) => return Ok((plan, rows)),
+                Rows::All(rows, _) => return Ok((plan, rows)),
                 Rows::OverCap => return Err(refusal(7, 0)),
                 Rows::Unsettled => steps *= 16,
             }

@@ -1,5 +1,6 @@
-//! The pairs of a variant and an active schedule of it, as rows: the variant and then a start for each activity. They
-//! stand by variant, then by the start of activity 0, then of activity 1 and so on through the present ones.
+//! The active sessions of a plan, each once, as rows: the lowest variant that it is active for and then a start for
+//! each activity. They stand by variant, then by the start of activity 0, then of activity 1 and so on through the
+//! present ones.
 
 use crate::file::Plan;
 use crate::insertion::{active_schedules, some_active_schedule, Found};
@@ -9,7 +10,8 @@ use calls::MARK;
 use std::collections::HashSet;
 
 pub enum Rows {
-    All(Vec<Vec<u16>>),
+    /// The rows, and how many active sessions each variant has, with those of lower variants.
+    All(Vec<Vec<u16>>, Vec<u64>),
     OverCap,
     /// The steps allowed were not enough to tell.
     Unsettled,
@@ -24,38 +26,42 @@ pub fn row_of(plan: &Plan, variant: u64, project: &Project, starts: &[u64]) -> V
     row
 }
 
+/// Every variant is searched, and of its rows those are kept whose starts no lower variant has. A variant that has more
+/// sessions than the cap by itself shows that there are more.
 pub fn rows(plan: &Plan, cap: u64, steps: u64) -> Rows {
-    let variants = plan.term.variant_count();
-    if variants > cap {
-        return Rows::OverCap;
-    }
     let mut steps = steps;
-    let mut rows = vec![];
-    for variant in 0..variants {
+    let (mut rows, mut active) = (vec![], vec![]);
+    let mut seen = HashSet::new();
+    for variant in 0..plan.term.variant_count() {
         let project = Project::new(&plan.activities, &plan.term.variant(variant));
-        match active_schedules(&project, cap - rows.len() as u64, &mut steps) {
-            Found::All(mut found) => {
-                found.sort();
-                rows.extend(found.iter().map(|starts| row_of(plan, variant, &project, starts)));
-            }
+        let mut found = match active_schedules(&project, cap, &mut steps) {
+            Found::All(found) => found,
             Found::More => return Rows::OverCap,
             Found::OutOfSteps if exceeds(plan, cap) => return Rows::OverCap,
             Found::OutOfSteps => return Rows::Unsettled,
+        };
+        found.sort();
+        active.push(found.len() as u64);
+        let of_variant = found.iter().map(|starts| row_of(plan, variant, &project, starts));
+        rows.extend(of_variant.filter(|row| seen.insert(row[1..].to_vec())));
+        if rows.len() as u64 > cap {
+            return Rows::OverCap;
         }
     }
-    Rows::All(rows)
+    Rows::All(rows, active)
 }
 
-/// Do random active schedules of the first variants show that there are more pairs than the cap?
+/// Do random active sessions of some variants show that there are more than the cap?
 fn exceeds(plan: &Plan, cap: u64) -> bool {
-    let variants = 0..plan.term.variant_count().min(4);
-    let projects: Vec<Project> =
-        variants.map(|variant| Project::new(&plan.activities, &plan.term.variant(variant))).collect();
+    let variants = plan.term.variant_count();
     let mut random = Random(cap);
+    let project = |number: u64| Project::new(&plan.activities, &plan.term.variant(number));
+    let projects: Vec<Project> = (0..variants.min(64)).map(|_| project(random.below(variants))).collect();
     let mut seen = HashSet::new();
     for _ in 0..2 * cap.min(10_000) + 100 {
-        let variant = random.index(projects.len());
-        seen.insert((variant, some_active_schedule(&projects[variant], &mut random)));
+        let project = &projects[random.index(projects.len())];
+        let starts = some_active_schedule(project, &mut random);
+        seen.insert(row_of(plan, 0, project, &starts));
         if seen.len() as u64 > cap {
             return true;
         }

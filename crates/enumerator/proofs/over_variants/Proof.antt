@@ -7,10 +7,10 @@ use Rattle.enumerator.proofs.over_variants.Statement.{statement}
 use Rattle.enumerator.proofs.over_variants.Tie as tie
 
 abbrev Inv-loop : tie.InvT-loop
-Inv-loop p variants area₀ s₀ picks₀ i₀ area s picks i = length area ≡ length area₀
+Inv-loop file p variants area₀ s₀ picks₀ i₀ area s picks i = length area ≡ length area₀
 
 abbrev μ-loop : tie.MeasureT-loop
-μ-loop p variants area₀ s₀ picks₀ i₀ area s picks i = variants - i
+μ-loop file p variants area₀ s₀ picks₀ i₀ area s picks i = variants - i
 
 pub over-variants-spec : {M : Type 1} → statement M
 over-variants-spec =
@@ -21,7 +21,6 @@ over-variants-spec =
     (λ c κs. search needs)
     (λ c κs. search needs)
     (λ c. search needs)
-    (λ c κs. search needs)
     (λ c κs. search needs)
     (λ c κs. search needs)
     (λ c. search needs)

@@ -10,8 +10,8 @@ use borrow.Fn.Kinds.{In}
 use borrow.Fn.PlainCycle.{Measures, is, falls, and}
 use Rattle.sets.proofs.Laws.{size-without}
 use Rattle.sets.specs.Sets.{most, has, size}
-use Rattle.tally.specs.Seen.{settingIn, keptOf}
-use Rattle.tally.specs.Tables.{problemIn}
+use Rattle.tally.specs.Seen.{keptOf, seenIn}
+use Rattle.candidates.specs.Tables.{problemIn}
 use Rattle.scan.specs.Model.{Problem, State, never, finish, key, isChoice, freeze, leaves}
 use Rattle.sets.proofs.Members.{lowest-below, lowest-has, after-less, after-none, two-left, ended}
 use Rattle.search.specs.Standing.{Position, position, AtState, Standing}
@@ -36,14 +36,14 @@ use Rattle.sets.proofs.without.Reads as without-reads
 use Rattle.search.proofs.+descend.{statement}
 use Rattle.search.proofs.+descend.Tie.{close}
 
-abbrev μ : Measures 4 kinds.ps ℕ
+abbrev μ : Measures 5 kinds.ps ℕ
 μ κs a = size (a .1 .0) most
 
-abbrev at : ℕ → In 4 kinds.ps
-at t = and 4 kinds.ps (is 4 kinds.ps μ t) descend.Pre
+abbrev at : ℕ → In 5 kinds.ps
+at t = and 5 kinds.ps (is 5 kinds.ps μ t) descend.Pre
 
-abbrev below : ℕ → In 4 kinds.ps
-below t = and 4 kinds.ps (falls 4 kinds.ps _<_ μ t) descend.Pre
+abbrev below : ℕ → In 5 kinds.ps
+below t = and 5 kinds.ps (falls 5 kinds.ps _<_ μ t) descend.Pre
 
 abbrev calls : ℕ → lts.Claims
 calls t = (
@@ -74,11 +74,11 @@ calls t = (
 )
 
 abbrev Inv-loop : lts.InvT-loop
-Inv-loop table left cands latest known work₀ cells₀ area₀ many key rest₀ work cells area rest =
-    Going table (position left cands latest work₀) (keptOf cells₀ area₀) work cells area rest
+Inv-loop table left cands latest known work₀ cells₀ book area₀ many key rest₀ work cells area rest =
+    Going table book (position left cands latest work₀) (keptOf cells₀ area₀) work cells area rest
 
 abbrev μ-loop : lts.MeasureT-loop
-μ-loop table left cands latest known work₀ cells₀ area₀ many key rest₀ work cells area rest = rest
+μ-loop table left cands latest known work₀ cells₀ book area₀ many key rest₀ work cells area rest = rest
 
 -- the places of the code that the answers speak of
 abbrev Start : ℕ → Type 0
@@ -104,7 +104,7 @@ Back t = lts.Joined4 (calls t) (at t) descend.Post Inv-loop μ-loop
 
 module _ {t : ℕ} where
   abbrev start : Loop t → Start t
-  start h = h .before .before .before .before .before .before .before .before .before
+  start h = h .before .before .before .before .before .before .before .before .before .before
 
   abbrev loop-of : Choice t → Loop t
   loop-of c = c .before .before .before .before .before
@@ -115,9 +115,12 @@ module _ {t : ℕ} where
   abbrev branch-of : Back t → Branch t
   branch-of c = c .before .before
 
-  -- the table, where the search stands, the problem, and the candidate
+  -- the table, the book, where the search stands, the problem, and the candidate
   abbrev table-of : Start t → List ℕ
   table-of c = c .args .table .now
+
+  abbrev book-of : Start t → List ℕ
+  book-of c = c .args .book .now
 
   abbrev from : Start t → Position
   from c = position (c .args .left) (c .args .cands) (c .args .latest) (c .args .work .now)
@@ -193,13 +196,15 @@ module _ (t : ℕ) where
 
   -- the search stands there
   below-standing : (c : Branch t)
-      → Standing (table-of (start (loop-of (chosen-of c .before)))) (to c)
+      → Standing (table-of (start (loop-of (chosen-of c .before)))) (book-of (start (loop-of (chosen-of c .before))))
+      (to c)
       (loop-of (chosen-of c .before) .loop .cells)
   below-standing c =
       let ch = chosen-of c .before in
       let first = start (loop-of ch) .pre .1 .0 in
       record {
         fit = first .fit;
+        rivals = first .rivals;
         timed = c .before .release .ensures .timed;
         tally = loop-of ch .loop .inv .tally;
         state = freeze (problem ch) (first .state) (candidate ch);
@@ -227,16 +232,17 @@ module _ (t : ℕ) where
 
   -- by either way the branch has been searched
   found : (c : Back t)
-      → BranchFound (table-of (start (loop-of (chosen-of (branch-of c) .before)))) (to (branch-of c))
+      → BranchFound (table-of (start (loop-of (chosen-of (branch-of c) .before))))
+      (book-of (start (loop-of (chosen-of (branch-of c) .before)))) (to (branch-of c))
       (keptOf (loop-of (chosen-of (branch-of c) .before) .loop .cells)
       (loop-of (chosen-of (branch-of c) .before) .loop .area))
       (c .if4 .work) (c .if4 .cells) (c .if4 .area)
   found c =
       ⊎-elim
       (λ w.
-      found-at (w .7) (w .8) (w .9) (record { explored = w .4 .ensures; same = w .4 .kept .1 .1 .1 .1 .1 .1 .0 }))
+      found-at (w .7) (w .8) (w .9) (record { explored = w .4 .ensures; same = w .4 .kept .1 .1 .1 .1 .1 .1 .1 .0 }))
       (λ w. found-at (w .7) (w .8) (w .9)
-      (record { explored = w .4 .ensures; same = w .4 .kept .1 .1 .1 .1 .1 .1 .1 .0 }))
+      (record { explored = w .4 .ensures; same = w .4 .kept .1 .1 .1 .1 .1 .1 .1 .1 .0 }))
       (c .if4 .came)
 
   element-copy-out-if1 : lts.Need-element-copy-out-if1 (calls t) (at t) descend.Post Inv-loop μ-loop
@@ -246,11 +252,11 @@ module _ (t : ℕ) where
   element-copy-out-if1-2 c = omega arith
 
   cast-if1 : lts.Need-cast-if1 (calls t) (at t) descend.Post Inv-loop μ-loop
-  cast-if1 c = omega (arith, c .before .before .before .pre .1 .0 .fit .cap)
+  cast-if1 c = omega (arith, c .before .before .before .before .pre .1 .0 .fit .cap)
 
   returns : lts.Need-returns (calls t) (at t) descend.Post Inv-loop μ-loop
   returns c =
-      let start = c .before .before .before .before in
+      let start = c .before .before .before .before .before in
       let t = table-of start in
       record {
         beside = beside-refl t (from start) (start .pre .1 .0 .timed);
@@ -259,19 +265,19 @@ module _ (t : ℕ) where
               tally = start .pre .1 .0 .tally;
               kept =
                   sym
-                  (stopped (problemIn t) (settingIn t) (keptOf (start .args .cells .now) (start .args .area .now))
+                  (stopped t (book-of start) (keptOf (start .args .cells .now) (start .args .area .now))
                   (leaves (problemIn t) (suc (size (s .left) most)) s) (c .if1 .taken));
             };
       }
 
   contests-requires : lts.Need-contests-requires (calls t) (at t) descend.Post Inv-loop μ-loop
   contests-requires c κs =
-      let start = c .before .before .before .before in
+      let start = c .before .before .before .before .before in
       (start .pre .1 .0 .at .inside, start .pre .1 .1)
 
   settle-requires : lts.Need-settle-requires (calls t) (at t) descend.Post Inv-loop μ-loop
   settle-requires c κs =
-      let start = c .before .before .before .before .before .before .before .before .before in (
+      let start = c .before .before .before .before .before .before .before .before .before .before in (
         start .pre .1 .0,
         c .before .before .before .before .contests .ensures .none
             (c .before .before .before .if2 .taken),
@@ -285,12 +291,12 @@ module _ (t : ℕ) where
 
   least-key-requires : lts.Need-least-key-requires (calls t) (at t) descend.Post Inv-loop μ-loop
   least-key-requires c κs =
-      let start = c .before .before .before .before .before .before .before in
+      let start = c .before .before .before .before .before .before .before .before in
       (start .pre .1 .0 .at .low, start .pre .1 .0 .timed)
 
   loop-holds : lts.Need-loop-holds (calls t) (at t) descend.Post Inv-loop μ-loop
   loop-holds c =
-      let start = c .before .before .before .before .before .before .before .before in
+      let start = c .before .before .before .before .before .before .before .before .before in
       let t = table-of start in
       record {
         tally = start .pre .1 .0 .tally;
@@ -301,7 +307,7 @@ module _ (t : ℕ) where
         kept = λ s stands.
             let some =
             c .before .before .before .contests .ensures .some (omega (arith, c .before .before .if2 .left)) in
-            seen-all (problemIn t) (settingIn t) s (start .args .cands) (size (s .left) most)
+            seen-all (problemIn t) (seenIn t (book-of start)) s (start .args .cands) (size (s .left) most)
             (keptOf (start .args .cells .now) (start .args .area .now))
             (λ e. omega (arith, after-none (start .args .left) (sym (stands .is-left) ∙ e), some))
             (open-none stands);
@@ -483,7 +489,9 @@ module _ (t : ℕ) where
         searched = λ s stands.
             record {
               tally = inv .tally;
-              kept = ended (seenFrom (table-of (start (c .before))) s) (c .loop-test .left) (inv .kept s stands);
+              kept =
+                  ended (seenFrom (table-of (start (c .before))) (book-of (start (c .before))) s) (c .loop-test .left)
+                  (inv .kept s stands);
             };
       }
 

@@ -17,24 +17,25 @@ network-requires : tie.Need-network-requires
 network-requires c κs = search needs
 
 opened-requires : tie.Need-opened-requires
-opened-requires c κs = c .before .before .before .pre .held .order .small
+opened-requires c κs = c .before .before .before .before .pre .0 .held .order .small
 
 cells-of-requires : tie.Need-cells-of-requires
 cells-of-requires c κs = search needs
 
 -- What stands when the search starts.
 abbrev start : tie.After-cells-of → tie.Start
-start c = c .before .before .before .before .before
+start c = c .before .before .before .before .before .before
 
 abbrev table : tie.After-cells-of → List ℕ
 table c = c .before .before .before .network .result
 
 standing : (c : tie.After-cells-of)
-    → Standing (table c) (position (start c .args .x .present) (c .before .opened .result) 0 (replicate workCells 0))
-    (c .cells-of .result)
+    → Standing (table c) (start c .args .book .now)
+    (position (start c .args .x .present) (c .before .opened .result) 0 (replicate workCells 0)) (c .cells-of .result)
 standing c =
-    root-standing (start c .pre) (omega (arith, start c .fits .cap)) (c .before .before .before .network .ensures)
-    (c .before .opened .result) (c .before .opened .ensures) (c .cells-of .result) (c .cells-of .ensures .0)
+    root-standing (start c .pre .0) (omega (arith, start c .fits .cap)) (c .before .before .before .network .ensures)
+    (start c .pre .1) (c .before .opened .result) (c .before .opened .ensures) (c .cells-of .result)
+    (c .cells-of .ensures .0)
 
 descend-requires : tie.Need-descend-requires
 descend-requires c κs = (standing (c .before .before .before .before), (λ some. absurd (omega arith)))
@@ -53,9 +54,9 @@ returns c =
     let a = start at .args in
     let went = c .before .before .before .before .descend in
     let cells = went .last .1 .1 .1 .1 .1 .1 .0 in
-    let area = went .last .1 .1 .1 .1 .1 .1 .1 .0 in
+    let area = went .last .1 .1 .1 .1 .1 .1 .1 .1 .0 in
     ap (λ (t : Tally). kept t area) (c .tally-of .ensures)
-    ∙ all-found (start at .pre) (omega (arith, start at .fits .cap)) (at .before .before .before .network .ensures)
+    ∙ all-found (start at .pre .0) (omega (arith, start at .fits .cap)) (at .before .before .before .network .ensures)
     (at .before .opened .result) (at .before .opened .ensures)
     (ap (λ (t : Tally). kept t (a .area .now)) (at .cells-of .ensures .1)) (went .ensures)
 

@@ -1,4 +1,5 @@
 -- `settle` meets its contract. The loop's invariant is `Settling`; the measure is what is left.
+use mathlib.Core.Path.{_∙_}
 use Prim.Native.Nat.{_<_}
 use native.Mathlib.Omega.{arith}
 use lib.Pow.{pow-pos}
@@ -8,25 +9,27 @@ use Rattle.sets.proofs.Members.{after-less}
 use Rattle.search.specs.Standing.{position}
 use Rattle.search.proofs.Settled.{Settling, settling-start, settling-on, at-here, below-here, left-here}
 use Rattle.search.proofs.Settled.{some-here, timed-here, settled-leaf, settled-seen, settled-dead}
+use Rattle.search.proofs.Same.{seen-alone}
+use Rattle.tally.specs.Seen.{keptOf}
 use Rattle.search.proofs.settle.Statement.{statement}
 use Rattle.search.proofs.settle.Tie as tie
 
 abbrev Inv-loop : tie.InvT-loop
-Inv-loop table left cands latest work₀ cells area last₀ rest₀ open₀ work last rest «open» =
+Inv-loop table left cands latest work₀ cells book area last₀ rest₀ open₀ work last rest «open» =
     Settling table (position left cands latest work₀) (position rest «open» last work)
 
 abbrev μ-loop : tie.MeasureT-loop
-μ-loop table left cands latest work₀ cells area last₀ rest₀ open₀ work last rest «open» = rest
+μ-loop table left cands latest work₀ cells book area last₀ rest₀ open₀ work last rest «open» = rest
 
 below : (c : tie.After-lowest Inv-loop μ-loop) → c .lowest .result < most
 below c =
     let h = c .before .before in
-    let start = h .before .before in
+    let start = h .before .before .before in
     below-here (start .pre .0) (start .pre .1) (h .loop .inv) (c .before .loop-test .taken) (c .lowest .ensures)
 
 loop-holds : tie.Need-loop-holds Inv-loop μ-loop
 loop-holds c =
-    let s = c .before in
+    let s = c .before .before in
     settling-start (s .args .table .now)
     (position (s .args .left) (s .args .cands) (s .args .latest) (s .args .work .now)) (s .pre .0 .timed)
 
@@ -49,7 +52,7 @@ without-requires : tie.Need-without-requires Inv-loop μ-loop
 without-requires c κs =
     let low = c .before .before .before in
     let h = low .before .before in
-    let s = h .before .before in (
+    let s = h .before .before .before in (
       below low,
       left-here (s .pre .0) (s .pre .1) (h .loop .inv) (low .before .loop-test .taken) (low .lowest .ensures),
     )
@@ -61,7 +64,7 @@ release-requires : tie.Need-release-requires Inv-loop μ-loop
 release-requires c κs =
     let low = c .before .before .before .before .before .before in
     let h = low .before .before in
-    let s = h .before .before in
+    let s = h .before .before .before in
     let more = low .before .loop-test .taken in
     let inside = at-here (s .pre .0) (s .pre .1) (h .loop .inv) .low in (
       below low,
@@ -75,7 +78,7 @@ loop-less : tie.Need-loop-less Inv-loop μ-loop
 loop-less c =
     let low = c .before .before .before .before .before .before .before in
     let h = low .before .before in
-    let s = h .before .before in
+    let s = h .before .before .before in
     omega (
       arith,
       c .before .before .before .without .ensures,
@@ -87,7 +90,7 @@ loop-again : tie.Need-loop-again Inv-loop μ-loop
 loop-again c =
     let low = c .before .before .before .before .before .before .before in
     let h = low .before .before in
-    let s = h .before .before in
+    let s = h .before .before .before in
     settling-on (s .pre .0) (s .pre .1) (h .loop .inv) (low .before .loop-test .taken) (low .lowest .ensures)
     (c .before .before .before .before .before .earliest-end .ensures)
     (c .before .before .before .without .ensures)
@@ -95,27 +98,49 @@ loop-again c =
     (c .before .before .before .before .later .ensures)
     (c .release .ensures)
 
+element-copy-out-if2 : tie.Need-element-copy-out-if2 Inv-loop μ-loop
+element-copy-out-if2 c = search needs
+
 leave-requires : tie.Need-leave-requires Inv-loop μ-loop
 leave-requires c κs =
-    let h = c .before .before .before .before .before in
-    let s = h .before .before in
-    settled-leaf (s .pre .0) (s .pre .1) (h .loop .inv) (c .before .before .before .if1 .taken)
+    let h = c .before .before .before .before .before .before .before in
+    let s = h .before .before .before in
+    settled-leaf (s .pre .0) (s .pre .1) (h .loop .inv) (c .before .before .before .before .before .if1 .taken)
+
+leave-new-requires : tie.Need-leave-new-requires Inv-loop μ-loop
+leave-new-requires c κs =
+    let h = c .before .before .before .before .before .before .before in
+    let s = h .before .before .before in
+    (settled-leaf (s .pre .0) (s .pre .1) (h .loop .inv) (c .before .before .before .before .before .if1 .taken), s .pre .0 .rivals)
 
 same-length : tie.Need-same-length Inv-loop μ-loop
 same-length c = search needs
 
 returns : tie.Need-returns Inv-loop μ-loop
 returns c =
-    let h = c .before .before .before .before .before .before .before .before in
-    let s = h .before .before in
-    settled-seen (s .pre .0) (s .pre .1) (h .loop .inv)
-    (c .before .before .before .before .before .before .if1 .taken)
-    (c .before .before .leave .ensures .0) (c .before .before .leave .ensures .1)
+    let h = c .before .before .before .before .before .before .before .before .before .before in
+    let s = h .before .before .before in
+    let a = s .args in
+    let left = c .before .before .leave .ensures in
+    settled-seen (s .pre .0) (s .pre .1) (h .loop .inv) (c .before .before .before .before .before .before .before .before .if1 .taken) (left .0)
+    (left .1
+    ∙ seen-alone (a .table .now) (a .book .now) (keptOf (a .cells .now) (a .area .now)) (h .loop .work)
+    (c .before .before .before .before .before .before .if2 .taken))
+
+same-length-2 : tie.Need-same-length-2 Inv-loop μ-loop
+same-length-2 c = search needs
 
 returns-2 : tie.Need-returns-2 Inv-loop μ-loop
 returns-2 c =
+    let h = c .before .before .before .before .before .before .before .before .before .before in
+    let s = h .before .before .before in
+    let left = c .before .before .leave-new .ensures in
+    settled-seen (s .pre .0) (s .pre .1) (h .loop .inv) (c .before .before .before .before .before .before .before .before .if1 .taken) (left .0) (left .1)
+
+returns-3 : tie.Need-returns-3 Inv-loop μ-loop
+returns-3 c =
     let h = c .before .before in
-    let s = h .before .before in
+    let s = h .before .before .before in
     settled-dead (s .pre .0) (s .pre .1) (h .loop .inv) (c .before .loop-test .left) (c .if1 .left)
 
 pub settle-spec : {M : Type 1} → statement M
@@ -135,7 +160,11 @@ settle-spec =
     release-requires
     loop-less
     loop-again
+    element-copy-out-if2
     leave-requires
+    leave-new-requires
     same-length
     returns
-    returns-2)
+    same-length-2
+    returns-2
+    returns-3)

@@ -6,7 +6,7 @@ use lib.ListN.{length, getD}
 use lib.Seq.{paste, paste-zero}
 use Rattle.scan.specs.Model.{starts, startOf}
 use Rattle.timetable.specs.Mark.{places}
-use Rattle.tally.specs.Tables.{problemIn}
+use Rattle.candidates.specs.Tables.{problemIn}
 use Rattle.scan.proofs.Starts.{starts-length}
 use Rattle.tally.proofs.Rows.{stored, one-more, all-stored, tally-stored, starts-below}
 use Rattle.tally.proofs.keep.Statement.{statement}

@@ -1,7 +1,7 @@
 -- `leave` meets its contract.
 use native.Mathlib.Omega.{arith}
 use Rattle.tally.specs.Seen.{settingIn}
-use Rattle.tally.specs.Tables.{problemIn}
+use Rattle.candidates.specs.Tables.{problemIn}
 use Rattle.tally.proofs.Rows.{seen-counted, seen-enough}
 use borrow.Author.Needs.{needs}
 use Rattle.tally.proofs.leave.Statement.{statement}

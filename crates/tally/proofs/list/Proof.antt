@@ -3,7 +3,7 @@ use Prim.Native.Nat.{_+_, _*_}
 use native.Mathlib.Omega.{arith}
 use Rattle.network.specs.Network.{actsOf}
 use Rattle.tally.specs.Seen.{settingIn, rowIn}
-use Rattle.tally.specs.Tables.{problemIn}
+use Rattle.candidates.specs.Tables.{problemIn}
 use Rattle.tally.proofs.Rows.{row-placed, row-length, row-at, placed-not}
 use borrow.Author.Needs.{needs}
 use Rattle.tally.proofs.list.Statement.{statement}

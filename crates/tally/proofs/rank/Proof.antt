@@ -4,7 +4,7 @@ use mathlib.Core.Path.{sym, _∙_}
 use lib.ListN.{set}
 use Rattle.network.specs.Network.{variantOf}
 use Rattle.tally.specs.Seen.{settingIn, bestEndCell, bestVariantCell}
-use Rattle.tally.specs.Tables.{problemIn}
+use Rattle.candidates.specs.Tables.{problemIn}
 use Rattle.tally.proofs.Rows.{rank-before, rank-after, tally-set, more, more-tally}
 use borrow.Author.Needs.{needs}
 use Rattle.tally.proofs.rank.Statement.{statement}

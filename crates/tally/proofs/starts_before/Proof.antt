@@ -7,7 +7,7 @@ use Rattle.base.specs.Order.{isBefore}
 use Rattle.scan.specs.Model.{starts, startOf}
 use Rattle.timetable.specs.Mark.{places}
 use Rattle.network.specs.Network.{durationAt}
-use Rattle.tally.specs.Tables.{problemIn}
+use Rattle.candidates.specs.Tables.{problemIn}
 use Rattle.tally.specs.Seen.{startsFrom}
 use Rattle.tally.proofs.Rows.{starts-passed, start-same, start-other}
 use Rattle.tally.proofs.starts_before.Statement.{statement}

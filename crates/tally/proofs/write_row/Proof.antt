@@ -6,7 +6,7 @@ use lib.ListN.{length, set, length-set, getD}
 use lib.Seq.{paste, paste-zero, length-paste}
 use Rattle.scan.specs.Model.{starts, startOf}
 use Rattle.network.specs.Network.{variantOf, actsOf}
-use Rattle.tally.specs.Tables.{problemIn}
+use Rattle.candidates.specs.Tables.{problemIn}
 use Rattle.scan.proofs.Starts.{starts-length}
 use Rattle.tally.proofs.Rows.{stored, one-more, row-done}
 use Rattle.tally.proofs.write_row.Statement.{statement}

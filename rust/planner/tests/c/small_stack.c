@@ -1,4 +1,5 @@
-/* Plans of 24 activities by each call, on a stack of 64 KiB. */
+/* Plans of 24 activities by each call, on a stack of 640 KiB: a table of 448 KiB stands there while the
+ * variants are searched. */
 #include "vialbluff.h"
 
 #include <assert.h>
@@ -6,12 +7,14 @@
 #include <stdio.h>
 #include <string.h>
 
-enum { JOBS = 6, STEPS = 4, ACTS = JOBS * STEPS, WIDTH = ACTS + 1, DEVICES = 16, STACK = 64 * 1024, BYTES = 959 };
-enum { LONGER = 6, MERGED = 134596, CAP = 150000, CELLS = MERGED * WIDTH };
+enum { JOBS = 6, STEPS = 4, ACTS = JOBS * STEPS, WIDTH = ACTS + 1, DEVICES = 16, STACK = 640 * 1024, BYTES = 959 };
+enum { LONGER = 6, MERGED = 134596, CHOICES = ACTS / 2, PAIRS = 9, CAP = 150000, CELLS = MERGED * WIDTH };
 
 static char shop[BYTES + 1];
 static char merge[BYTES + 1];
 static char nest[BYTES + 1];
+static char choices[BYTES + 1];
+static char orders[BYTES + 1];
 static uint16_t area[CELLS];
 static uint8_t text[BYTES];
 
@@ -25,7 +28,7 @@ static void write_sequence(char *plan, int from, int to) {
   for (int i = from; i < to; i++) line(plan, "node=a,%d\n", i, 0);
 }
 
-/* Six jobs side by side, each on the four devices in turn: more pairs than the cap. */
+/* Six jobs side by side, each on the four devices in turn: more sessions than the cap. */
 static void write_shop(void) {
   line(shop, "plan=1\nres=%d\nacts=%d\n", STEPS, ACTS);
   for (int i = 0; i < ACTS; i++) line(shop, "act=%d,%d\n", i % STEPS, 1 + i % 7);
@@ -53,38 +56,61 @@ static void write_nest(void) {
   line(nest, "node=a,%d\n", ACTS - 1, 0);
 }
 
+/* Choices side by side, each between two activities on a device of its own: every variant has other activities, and one
+ * session. */
+static void write_choices(void) {
+  line(choices, "plan=1\nres=%d\nacts=%d\n", CHOICES, ACTS);
+  for (int i = 0; i < ACTS; i++) line(choices, "act=%d,1\n", i / 2, 0);
+  line(choices, "nodes=%d\nnode=p,%d\n", 1 + 3 * CHOICES, CHOICES);
+  for (int i = 0; i < ACTS; i += 2) line(choices, "node=x,2\nnode=a,%d\nnode=a,%d\n", i, i + 1);
+}
+
+/* Choices side by side, each of two activities on a device of their own, in sequence or side by side: every variant has
+ * the same activities, and one session that no lower variant has. */
+static void write_orders(void) {
+  line(orders, "plan=1\nres=%d\nacts=%d\n", PAIRS, ACTS);
+  for (int i = 0; i < ACTS; i++) line(orders, "act=%d,1\n", i / 2 % PAIRS, 0);
+  line(orders, "nodes=%d\nnode=p,%d\n", 1 + 7 * PAIRS, PAIRS);
+  for (int i = 0; i < 2 * PAIRS; i += 2) {
+    line(orders, "node=x,2\nnode=s,2\nnode=a,%d\nnode=a,%d\n", i, i + 1);
+    line(orders, "node=p,2\nnode=a,%d\nnode=a,%d\n", i, i + 1);
+  }
+}
+
 static int stands_before(const uint16_t *a, const uint16_t *b) {
   int i = 0;
   while (i < WIDTH && a[i] == b[i]) i++;
   return i < WIDTH && a[i] < b[i];
 }
 
-/* The plan has so many pairs, or more than the cap if they are 0. */
-static void call_each(const char *plan, uint64_t pairs) {
+/* The plan has so many variants and sessions, or more sessions than the cap if they are 0. */
+static void call_each(const char *plan, uint64_t variants, uint64_t sessions) {
   const uint8_t *file = (const uint8_t *)plan;
   const size_t length = strlen(plan);
-  const uint64_t refused = pairs == 0 ? 7 : 0;
+  const uint64_t refused = sessions == 0 ? 7 : 0;
   uint16_t starts[VIALBLUFF_PLACES] = {0};
   uint64_t out[4];
   vialbluff_read(file, length, out);
-  assert(out[0] == 0 && out[1] == ACTS);
+  assert(out[0] == 0 && out[1] == ACTS && out[3] == variants);
   vialbluff_write(file, length, 0, text, sizeof text, out);
-  assert(out[0] == 0 && out[1] == length && memcmp(text, plan, length) == 0);
+  assert(out[0] == 0 && (variants > 1 || (out[1] == length && memcmp(text, plan, length) == 0)));
   vialbluff_check(file, length, 0, starts, out);
   assert(out[0] == 0 && out[1] == 0);
   vialbluff_count(file, length, CAP, out);
-  assert(out[0] == refused && out[1] == pairs);
+  assert(out[0] == refused && out[1] == sessions);
   vialbluff_list(file, length, CAP, area, CELLS, out);
-  assert(out[0] == refused && out[1] == pairs);
-  for (uint64_t i = 1; i < pairs; i++) assert(stands_before(area + (i - 1) * WIDTH, area + i * WIDTH));
+  assert(out[0] == refused && out[1] == sessions);
+  for (uint64_t i = 1; i < sessions; i++) assert(stands_before(area + (i - 1) * WIDTH, area + i * WIDTH));
   vialbluff_best(file, length, CAP, starts, out);
-  assert(out[0] == refused && out[3] == pairs);
+  assert(out[0] == refused && out[3] == sessions);
 }
 
 static void *call_all(void *none) {
-  call_each(shop, 0);
-  call_each(merge, MERGED);
-  call_each(nest, 1);
+  call_each(shop, 1, 0);
+  call_each(merge, 1, MERGED);
+  call_each(nest, 1, 1);
+  call_each(choices, 1 << CHOICES, 1 << CHOICES);
+  call_each(orders, 1 << PAIRS, 1 << PAIRS);
   return none;
 }
 
@@ -94,6 +120,8 @@ int main(void) {
   write_shop();
   write_merge();
   write_nest();
+  write_choices();
+  write_orders();
   assert(pthread_attr_init(&attributes) == 0);
   assert(pthread_attr_setstacksize(&attributes, STACK) == 0);
   assert(pthread_create(&thread, &attributes, call_all, NULL) == 0);

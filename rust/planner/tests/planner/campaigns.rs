@@ -99,13 +99,86 @@ fn groups_of_one() {
     assert_eq!(variants("plan=1/res=1/acts=2/act=0,1/act=0,1/nodes=1/node=a,1"), Ok(1));
 }
 
+/// Caps on both sides of the number of sessions.
+fn counted(text: &str, sessions: u32) {
+    let (planner, plan) = (crate::planner(), file(text));
+    let cells = sessions as usize * (planner.read(&plan).unwrap().activities as usize + 1);
+    assert_eq!(planner.count(&plan, sessions), Ok(u64::from(sessions)));
+    assert_eq!(planner.list(&plan, sessions, &mut vec![0; cells]), Ok(u64::from(sessions)));
+    assert_eq!(planner.list(&plan, sessions, &mut vec![0; cells - 1]), Err(refusal(8, cells as u64)));
+    assert_eq!(best(text, sessions).map(|found| found.0.count), Ok(u64::from(sessions)));
+    assert_eq!(planner.count(&plan, sessions - 1), Err(refusal(7, 0)));
+    assert_eq!(planner.list(&plan, sessions - 1, &mut vec![0; cells]), Err(refusal(7, 0)));
+    assert_eq!(best(text, sessions - 1), Err(refusal(7, 0)));
+}
+
 #[test]
 fn activity_0_twice() {
     let x = "plan=1/res=1/acts=1/act=0,1/nodes=3/node=x,2/node=a,0/node=a,0";
     assert_eq!(variants(x), Ok(2));
-    assert_eq!(listed(x), [[0, 0], [1, 0]]);
-    assert_eq!(best(x, 2).unwrap().0, Best { variant: 0, makespan: 1, count: 2 });
+    assert_eq!(listed(x), [[0, 0]]);
+    counted(x, 1);
+    assert_eq!(best(x, 1).unwrap().0, Best { variant: 0, makespan: 1, count: 1 });
     assert_eq!(variants(&x.replace('x', "p")), Err(refusal(5, 0)));
+}
+
+/// One device: variants 0 and 1 have a session each, variant 2 has both.
+#[test]
+fn active_for_0_and_2_but_not_1() {
+    let text = "plan=1/res=1/acts=2/act=0,3/act=0,4/nodes=10/node=x,3/node=s,2/node=a,0/node=a,1\
+        /node=s,2/node=a,1/node=a,0/node=p,2/node=a,0/node=a,1";
+    assert_eq!(variants(text), Ok(3));
+    assert_eq!(listed(text), [[0, 0, 3], [1, 4, 0]]);
+    counted(text, 2);
+    assert_eq!(best(text, 2).unwrap().0, Best { variant: 0, makespan: 7, count: 2 });
+}
+
+/// Two devices: that activity 1 waits for 0 is feasible in variant 0, but active only in variants 1 and 3.
+#[test]
+fn feasible_for_a_lower_variant() {
+    let text = "plan=1/res=2/acts=2/act=0,3/act=1,4/nodes=13/node=x,4/node=p,2/node=a,0/node=a,1\
+        /node=s,2/node=a,0/node=a,1/node=p,2/node=a,1/node=a,0/node=s,2/node=a,0/node=a,1";
+    assert_eq!(variants(text), Ok(4));
+    assert_eq!(listed(text), [[0, 0, 0], [1, 0, 3]]);
+    counted(text, 2);
+}
+
+/// The shortest session is of both variants, whose orders differ; the other session is of one alone.
+#[test]
+fn shortest_of_two_variants() {
+    let text = |first: &str, second: &str| {
+        format!("plan=1/res=2/acts=3/act=0,1/act=0,2/act=1,3/nodes=11/node=x,2{first}{second}")
+    };
+    let beside = "/node=p,2/node=a,0/node=s,2/node=a,1/node=a,2";
+    let behind = "/node=s,2/node=a,1/node=p,2/node=a,0/node=a,2";
+    for (text, rows) in
+        [(text(beside, behind), [[0, 0, 1, 3], [0, 2, 0, 2]]), (text(behind, beside), [[0, 2, 0, 2], [1, 0, 1, 3]])]
+    {
+        assert_eq!(variants(&text), Ok(2));
+        assert_eq!(listed(&text), rows);
+        counted(&text, 2);
+        let (found, starts) = best(&text, 2).unwrap();
+        assert_eq!(found, Best { variant: 0, makespan: 5, count: 2 });
+        assert_eq!(starts[..3], [2, 0, 2]);
+    }
+}
+
+/// Other activities are another session, with the same starts too.
+#[test]
+fn other_activities() {
+    let text =
+        "plan=1/res=2/acts=2/act=0,1/act=1,1/nodes=7/node=x,4/node=a,0/node=p,2/node=a,0/node=a,1/node=a,1/node=a,0";
+    assert_eq!(listed(text), [[0, 0, MARK], [1, 0, 0], [2, MARK, 0]]);
+    counted(text, 3);
+}
+
+/// 63 variants of one session each, which is the same for all.
+#[test]
+fn more_variants_than_sessions() {
+    let text = format!("plan=1/res=1/acts=1/act=0,1/nodes=64/node=x,63{}", "/node=a,0".repeat(63));
+    assert_eq!(variants(&text), Ok(63));
+    assert_eq!(listed(&text), [[0, 0]]);
+    counted(&text, 1);
 }
 
 #[test]

@@ -14,14 +14,35 @@ pub struct Seen {
     /// The number of its refusal, or 0.
     pub refused: u64,
     pub variants: u64,
-    pub pairs: Pairs,
+    pub sessions: Sessions,
 }
 
-pub enum Pairs {
-    Listed(u64),
+pub enum Sessions {
+    Listed(Listed),
     OverCap,
     /// The reference could not settle the count.
     Open,
+}
+
+pub struct Listed {
+    pub sessions: u64,
+    /// The pairs of a variant and an active session of it.
+    pub pairs: u64,
+    /// Does some variant have sessions of lower variants and sessions of its own?
+    pub mixed: bool,
+}
+
+impl Listed {
+    /// Of the rows, and how many active sessions each variant has.
+    fn new(rows: &[Vec<u16>], active: &[u64]) -> Listed {
+        let mut own = vec![0; active.len()];
+        rows.iter().for_each(|row| own[usize::from(row[0])] += 1);
+        Listed {
+            sessions: rows.len() as u64,
+            pairs: active.iter().sum(),
+            mixed: own.iter().zip(active).any(|(own, all)| 0 < *own && own < all),
+        }
+    }
 }
 
 type Difference = Result<(), String>;
@@ -73,7 +94,7 @@ pub fn compare(planner: &impl Planner, file: &[u8], random: &mut Random) -> Resu
     match parse(file) {
         Err(refused) => {
             every_call_refuses(planner, file, refused, random)?;
-            Ok(Seen { refused: refused.number, variants: 0, pairs: Pairs::OverCap })
+            Ok(Seen { refused: refused.number, variants: 0, sessions: Sessions::OverCap })
         }
         Ok(plan) => {
             let size = planner.read(file).map(|size| [size.activities, size.nodes, size.variants]);
@@ -81,8 +102,8 @@ pub fn compare(planner: &impl Planner, file: &[u8], random: &mut Random) -> Resu
             same("read", Ok([plan.activities.len() as u64, nodes, variants]), size)?;
             compare_write(planner, file, &plan, random)?;
             compare_check(planner, file, &plan, random)?;
-            let pairs = compare_pairs(planner, file, &plan, random)?;
-            Ok(Seen { refused: 0, variants, pairs })
+            let sessions = compare_sessions(planner, file, &plan, random)?;
+            Ok(Seen { refused: 0, variants, sessions })
         }
     }
 }
@@ -206,22 +227,24 @@ fn compare_check(planner: &impl Planner, file: &[u8], plan: &Plan, random: &mut 
 }
 
 /// COUNT, LIST and BEST.
-fn compare_pairs(planner: &impl Planner, file: &[u8], plan: &Plan, random: &mut Random) -> Result<Pairs, String> {
+fn compare_sessions(planner: &impl Planner, file: &[u8], plan: &Plan, random: &mut Random) -> Result<Sessions, String> {
     refuses_cap(planner, file, refusal(7, 0), 0, random)?;
     let many = plan.term.variant_count() > 200;
-    let (most, steps) = if random.once_in(if many { 8 } else { 200 }) {
-        (20_000, 60_000)
-    } else {
-        random.pick(&[(10, 1000), (50, 1000), (200, 2000), (1000, 3000)])
+    // a cap, and the steps that the reference may take
+    let (most, steps) = match random.below(200) {
+        0 => (20_000, 60_000),
+        n if many && n < 12 => (20_000, 600_000),
+        _ if many => random.pick(&[(10, 2000), (40, 2000)]),
+        _ => random.pick(&[(10, 2000), (50, 4000), (200, 6000), (1000, 10_000)]),
     };
     match rows(plan, most, steps) {
-        Rows::Unsettled => Ok(Pairs::Open),
+        Rows::Unsettled => Ok(Sessions::Open),
         Rows::OverCap => {
             refuses_cap(planner, file, refusal(7, 0), most as u32, random)?;
             refuses_cap(planner, file, refusal(7, 0), random.below(most) as u32, random)?;
-            Ok(Pairs::OverCap)
+            Ok(Sessions::OverCap)
         }
-        Rows::All(rows) => {
+        Rows::All(rows, active) => {
             let count = rows.len() as u64;
             refuses_cap(planner, file, refusal(7, 0), count as u32 - 1, random)?;
             let larger = random.pick(&[count as u32 + 1, 1_000_000, u32::MAX]);
@@ -230,7 +253,7 @@ fn compare_pairs(planner: &impl Planner, file: &[u8], plan: &Plan, random: &mut 
                 compare_list(planner, file, cap, &rows, random)?;
                 compare_best(planner, file, cap, plan, &rows, random)?;
             }
-            Ok(Pairs::Listed(count))
+            Ok(Sessions::Listed(Listed::new(&rows, &active)))
         }
     }
 }

@@ -1,6 +1,6 @@
 //! Many plan files, each seeded by its number.
 
-use crate::compare::{compare, Pairs};
+use crate::compare::{compare, Sessions};
 use crate::plans::plan_file;
 use reference::random::Random;
 use std::collections::BTreeMap;
@@ -30,13 +30,16 @@ fn run(numbers: impl Iterator<Item = u64>) -> Tally {
         }
         add("accepted", 1);
         add("accepted, 959 bytes", u64::from(file.len() == 959));
-        match seen.pairs {
-            Pairs::OverCap => add("accepted, more pairs than were to be listed", 1),
-            Pairs::Open => add("accepted, pairs left open", 1),
-            Pairs::Listed(count) => {
-                add("accepted, pairs listed", 1);
-                add("accepted, pairs listed, 4096 variants", u64::from(seen.variants == 4096));
-                add("pairs", count);
+        match seen.sessions {
+            Sessions::OverCap => add("accepted, more sessions than were to be listed", 1),
+            Sessions::Open => add("accepted, sessions left open", 1),
+            Sessions::Listed(listed) => {
+                add("accepted, sessions listed", 1);
+                add("accepted, sessions listed, 4096 variants", u64::from(seen.variants == 4096));
+                add("accepted, sessions listed, fewer than pairs", u64::from(listed.sessions < listed.pairs));
+                add("accepted, sessions listed, part of a variant's under lower ones", u64::from(listed.mixed));
+                add("sessions", listed.sessions);
+                add("pairs of a variant and a session", listed.pairs);
             }
         }
     }
@@ -60,8 +63,10 @@ fn differential() {
     }
     if plans >= 100_000 {
         assert!([1, 2, 3, 4, 5, 6, 10].iter().all(|number| all[&format!("refused {number}")] > plans / 200));
-        assert!(all["accepted, pairs listed"] > plans / 4);
-        assert!(all["accepted, pairs left open"] < plans / 100);
-        assert!(all["accepted, 959 bytes"] > 100 && all["accepted, pairs listed, 4096 variants"] > 10);
+        assert!(all["accepted, sessions listed"] > plans / 4);
+        assert!(all["accepted, sessions left open"] < plans / 100);
+        assert!(all["accepted, 959 bytes"] > 100 && all["accepted, sessions listed, 4096 variants"] > 10);
+        assert!(all["accepted, sessions listed, fewer than pairs"] > plans / 10);
+        assert!(all["accepted, sessions listed, part of a variant's under lower ones"] > plans / 50);
     }
 }

@@ -4,11 +4,13 @@ use crate::compare::compare;
 use crate::plans::plan_file;
 use calls::{Answer, Best, Planner, Refusal, Size, Timetable, MARK};
 use reference::file::{parse, Plan};
+use reference::insertion::{active_schedules, Found};
 use reference::orders::each_earliest;
-use reference::project::Project;
+use reference::project::{Project, Schedule};
 use reference::random::Random;
 use reference::rows::row_of;
 use reference::{makespan_of, refusal, Reference};
+use std::collections::HashSet;
 
 #[derive(Clone, Copy, Debug, PartialEq)]
 enum Fault {
@@ -37,12 +39,30 @@ enum Fault {
     FirstVariantForAll,
     NothingWaits,
     SlidesOnly,
+    SharedUnderEach,
+    SharedUnderHighest,
+    SharedInOneOrderOnly,
+    SharedWithVariantBeforeOnly,
+    SharedIfFeasible,
+    SharedByStartsAlone,
+    CapCountsPairs,
     BestOfFirstVariant,
     BestByLongestChain,
     BestLeavesMarks,
     BestIsLastShortest,
     BestForgetsVariants,
+    BestCountsPairs,
 }
+
+/// Those in which a session of several variants is not one row under the lowest.
+const SHARED: [Fault; 6] = [
+    Fault::SharedUnderEach,
+    Fault::SharedUnderHighest,
+    Fault::SharedInOneOrderOnly,
+    Fault::SharedWithVariantBeforeOnly,
+    Fault::SharedIfFeasible,
+    Fault::SharedByStartsAlone,
+];
 
 struct Faulty(Fault);
 
@@ -72,7 +92,34 @@ impl Faulty {
         if self.has(Fault::SlidesOnly) {
             rows = earliest_rows(&plan);
         }
+        if SHARED.contains(&self.0) {
+            rows = self.shared_rows(&plan);
+        }
+        if self.has(Fault::CapCountsPairs) && pairs(&plan) > u64::from(cap) {
+            return Err(refusal(7, 0));
+        }
         Ok((plan, rows))
+    }
+
+    /// The rows, where it is by another rule that one is left out.
+    fn shared_rows(&self, plan: &Plan) -> Vec<Vec<u16>> {
+        let projects = projects(plan);
+        let found: Vec<Vec<Schedule>> = projects.iter().map(active).collect();
+        let same_activities = |u: usize, v: usize| projects[u].numbers == projects[v].numbers;
+        let has = |u: usize, starts: &Schedule| found[u].binary_search(starts).is_ok();
+        let is_left_out = |v: usize, starts: &Schedule| match self.0 {
+            Fault::SharedUnderHighest => (v + 1..projects.len()).any(|u| same_activities(u, v) && has(u, starts)),
+            Fault::SharedInOneOrderOnly => {
+                (0..v).any(|u| same_activities(u, v) && projects[u].before == projects[v].before)
+            }
+            Fault::SharedWithVariantBeforeOnly => v > 0 && same_activities(v - 1, v) && has(v - 1, starts),
+            Fault::SharedIfFeasible => (0..v).any(|u| same_activities(u, v) && projects[u].is_feasible(starts)),
+            Fault::SharedByStartsAlone => (0..v).any(|u| has(u, starts)),
+            _ => false,
+        };
+        let kept = |v: usize| found[v].iter().filter(move |starts| !is_left_out(v, starts));
+        let rows = |v: usize| kept(v).map(|starts| row_of(plan, v as u64, &projects[v], starts)).collect::<Vec<_>>();
+        (0..projects.len()).flat_map(rows).collect()
     }
 
     fn variant(&self, plan: &Plan, variant: u64) -> u64 {
@@ -83,6 +130,26 @@ impl Faulty {
             variant
         }
     }
+}
+
+fn projects(plan: &Plan) -> Vec<Project> {
+    (0..plan.term.variant_count()).map(|v| Project::new(&plan.activities, &plan.term.variant(v))).collect()
+}
+
+/// The active schedules of one variant, in order.
+fn active(project: &Project) -> Vec<Schedule> {
+    match active_schedules(project, u64::MAX, &mut u64::MAX.clone()) {
+        Found::All(mut found) => {
+            found.sort();
+            found
+        }
+        _ => unreachable!(),
+    }
+}
+
+/// The number of pairs of a variant and an active session of it.
+fn pairs(plan: &Plan) -> u64 {
+    projects(plan).iter().map(|project| active(project).len() as u64).sum()
 }
 
 /// Does an activity wait although its predecessors are done and its resource is free on a tick before its start?
@@ -107,6 +174,8 @@ fn earliest_rows(plan: &Plan) -> Vec<Vec<u16>> {
         each_earliest(&project, &mut |starts| rows.push(row_of(plan, variant, &project, &starts)));
     }
     rows.sort();
+    let mut seen = HashSet::new();
+    rows.retain(|row| seen.insert(row[1..].to_vec()));
     rows
 }
 
@@ -249,7 +318,8 @@ impl Planner for Faulty {
             starts.fill(MARK);
         }
         starts[..row.len() - 1].copy_from_slice(&row[1..]);
-        Ok(Best { variant: u64::from(row[0]), makespan: makespan_of(&plan, row), count: rows.len() as u64 })
+        let count = if self.has(Fault::BestCountsPairs) { pairs(&plan) } else { rows.len() as u64 };
+        Ok(Best { variant: u64::from(row[0]), makespan: makespan_of(&plan, row), count })
     }
 }
 
@@ -266,7 +336,7 @@ fn found_out(fault: Fault) -> Option<u64> {
 #[test]
 fn each_fault_is_found_out() {
     assert_eq!(found_out(Fault::None), None);
-    for fault in [
+    let others = [
         Fault::ReadRefusesAll,
         Fault::ReadTakesMissingNewline,
         Fault::ReadTakesLeadingZero,
@@ -291,12 +361,15 @@ fn each_fault_is_found_out() {
         Fault::FirstVariantForAll,
         Fault::NothingWaits,
         Fault::SlidesOnly,
+        Fault::CapCountsPairs,
         Fault::BestOfFirstVariant,
         Fault::BestByLongestChain,
         Fault::BestLeavesMarks,
         Fault::BestIsLastShortest,
         Fault::BestForgetsVariants,
-    ] {
+        Fault::BestCountsPairs,
+    ];
+    for fault in others.into_iter().chain(SHARED) {
         assert!(found_out(fault).is_some(), "{fault:?} was not found out");
     }
 }

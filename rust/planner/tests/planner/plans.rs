@@ -29,8 +29,9 @@ impl Draft {
 /// A plan file and the name of its kind.
 pub fn plan_file(random: &mut Random) -> (&'static str, Vec<u8>) {
     let (kind, text) = match random.below(100) {
-        0..=29 => ("tiny", tiny(random).text()),
-        30..=49 => ("middling", middling(random).text()),
+        0..=15 => ("tiny", tiny(random).text()),
+        16..=28 => ("middling", middling(random).text()),
+        29..=49 => ("shared activities", shared(random).text()),
         50..=59 => ("large", large(random).text()),
         60..=63 => ("groups of one", groups_of_one(random).text()),
         64..=65 => ("many variants", many_variants(random).text()),
@@ -53,8 +54,7 @@ fn activities(random: &mut Random, count: u64, resources: u64, longest: u64) -> 
     (0..count).map(|_| (random.below(resources), random.between(1, longest))).collect()
 }
 
-fn shuffled(random: &mut Random, count: u64) -> Vec<u64> {
-    let mut numbers: Vec<u64> = (0..count).collect();
+fn shuffled(random: &mut Random, mut numbers: Vec<u64>) -> Vec<u64> {
     for i in (1..numbers.len()).rev() {
         numbers.swap(i, random.below(i as u64 + 1) as usize);
     }
@@ -89,7 +89,7 @@ fn term(random: &mut Random, activities: &[u64], room: u64, letters: &[char]) ->
 }
 
 fn draft(random: &mut Random, count: u64, resources: u64, longest: u64, room: u64, letters: &[char]) -> Draft {
-    let numbers = shuffled(random, count);
+    let numbers = shuffled(random, (0..count).collect());
     Draft {
         resources,
         activities: activities(random, count, resources, longest),
@@ -112,6 +112,63 @@ fn large(random: &mut Random) -> Draft {
     let count = random.between(11, 24);
     let (resources, longest) = (random.between(1, 16), random.pick(&[3, 50, 2000]));
     draft(random, count, resources, longest, 64, &['s', 's', 's', 'p', 'x'])
+}
+
+/// The nodes of a term that has all of the activities in each variant, or nearly all. At most `nested` x stand one in
+/// another.
+fn shared_term(random: &mut Random, activities: &[u64], nested: u64) -> Vec<Node> {
+    if nested > 0 && random.once_in(2) {
+        let children = random.between(2, 4);
+        let first = shared_term(random, activities, nested - 1);
+        let others: Vec<Node> =
+            (1..children).flat_map(|_| another_order(random, &first, activities, nested - 1)).collect();
+        return [&[('x', children)], &first[..], &others].concat();
+    }
+    if let [only] = activities {
+        return vec![('a', *only)];
+    }
+    let (front, back) = activities.split_at(1 + random.index(activities.len() - 1));
+    let letter = random.pick(&['s', 'p']);
+    [&[(letter, 2)], &shared_term(random, front, nested)[..], &shared_term(random, back, nested)].concat()
+}
+
+/// The term again, with other letters, or another one of its activities, in their order or not, perhaps without the
+/// first.
+fn another_order(random: &mut Random, nodes: &[Node], activities: &[u64], nested: u64) -> Vec<Node> {
+    match random.below(8) {
+        0 => nodes.to_vec(),
+        1..=3 => nodes.iter().map(|&(letter, number)| (turned(random, letter), number)).collect(),
+        4 => shared_term(random, activities, nested),
+        5 => shared_term(random, &activities.iter().rev().copied().collect::<Vec<_>>(), nested),
+        6 => {
+            let numbers = shuffled(random, activities.to_vec());
+            shared_term(random, &numbers, nested)
+        }
+        _ => shared_term(random, &activities[usize::from(activities.len() > 1)..], nested),
+    }
+}
+
+/// An s is made a p, or a p an s, once in two times.
+fn turned(random: &mut Random, letter: char) -> char {
+    match letter {
+        's' | 'p' => random.pick(&['s', 'p']),
+        _ => letter,
+    }
+}
+
+/// Variants that have the same activities, in the same order or in others.
+fn shared(random: &mut Random) -> Draft {
+    let (count, resources) = (random.between(2, 6), random.between(1, 3));
+    let longest = random.pick(&[1, 2, 5, 2000]);
+    let activities = activities(random, count, resources, longest);
+    loop {
+        let numbers = shuffled(random, (0..count).collect());
+        let nested = random.between(1, 2);
+        let nodes = shared_term(random, &numbers, nested);
+        if nodes.len() <= 64 {
+            return Draft { resources, activities, nodes };
+        }
+    }
 }
 
 /// A plan with some groups of one put over terms of it.

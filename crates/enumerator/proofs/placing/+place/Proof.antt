@@ -16,7 +16,7 @@ use Rattle.enumerator.proofs.placing.+place.{statement}
 use Rattle.enumerator.proofs.placing.+place.Tie.{close}
 
 abbrev μ-place : Measures 2 place-kinds.ps ℕ
-μ-place κs a = 24 - a .1 .1 .1 .0
+μ-place κs a = 24 - a .1 .1 .1 .1 .0
 
 abbrev place-at : ℕ → In 2 place-kinds.ps
 place-at t = and 2 place-kinds.ps (is 2 place-kinds.ps μ-place t) place.Pre
@@ -25,10 +25,10 @@ abbrev place-below : ℕ → In 2 place-kinds.ps
 place-below t = and 2 place-kinds.ps (falls 2 place-kinds.ps _<_ μ-place t) place.Pre
 
 abbrev place-Inv-loop : place-lts.InvT-loop
-place-Inv-loop relations duration i s area₀ starts t₀ tick₀ tick-end area t tick = length area ≡ length area₀
+place-Inv-loop file relations duration i s area₀ starts t₀ tick₀ tick-end area t tick = length area ≡ length area₀
 
 abbrev place-μ-loop : place-lts.MeasureT-loop
-place-μ-loop relations duration i s area₀ starts t₀ tick₀ tick-end area t tick = tick-end - tick
+place-μ-loop file relations duration i s area₀ starts t₀ tick₀ tick-end area t tick = tick-end - tick
 
 pub +place-spec : {M : Type 1} → statement M
 +place-spec = close μ-place λ t. place-lts.spec (

@@ -6,7 +6,7 @@ use lib.ListN.{drop}
 use lib.Seq.{getD-take, getD-drop}
 use Rattle.plan.specs.Limits.{packing}
 use Rattle.network.specs.Network.{predsAt, predsFrom, durationAt, resourceAt}
-use Rattle.tally.specs.Tables.{problemIn}
+use Rattle.candidates.specs.Tables.{problemIn}
 use Rattle.sets.specs.Sets.{width}
 
 module _ (t : List ℕ) (i : ℕ) (low : i < width) where

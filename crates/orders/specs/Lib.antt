@@ -1,0 +1,2 @@
+-- The orders of the variants searched so far.
+pub mod Book

@@ -1,0 +1,135 @@
+//! Each session once, under the lowest variant that it is active for.
+
+use calls::{Best, Planner, MARK};
+use reference::definition::active_schedules;
+use reference::file::{parse, text, Activity, Plan};
+use reference::project::Project;
+use reference::random::Random;
+use reference::rows::{row_of, rows, Rows};
+use reference::term::{Kind, Term};
+use reference::{refusal, Reference};
+
+/// A plan of so many devices, of activities (device and duration) and of nodes.
+fn plan(resources: u64, activities: &[(u64, u64)], nodes: &str) -> Plan {
+    let nodes: Vec<&str> = nodes.split(' ').collect();
+    let mut text = format!("plan=1\nres={resources}\nacts={}\n", activities.len());
+    activities.iter().for_each(|(resource, duration)| text += &format!("act={resource},{duration}\n"));
+    text += &format!("nodes={}\n", nodes.len());
+    nodes.iter().for_each(|node| text += &format!("node={node}\n"));
+    parse(text.as_bytes()).unwrap()
+}
+
+/// The rows, which are within a cap exactly if they are no more than it, and how many active sessions each variant has.
+fn listed(plan: &Plan) -> (Vec<Vec<u16>>, Vec<u64>) {
+    let Rows::All(found, active) = rows(plan, u64::MAX, u64::MAX) else { unreachable!() };
+    let count = found.len() as u64;
+    assert!(matches!(rows(plan, count, u64::MAX), Rows::All(same, _) if same == found));
+    assert!(matches!(rows(plan, count - 1, u64::MAX), Rows::OverCap));
+    (found, active)
+}
+
+#[test]
+fn activity_0_twice() {
+    let x = plan(1, &[(0, 1)], "x,2 a,0 a,0");
+    assert_eq!(x.term.variant_count(), 2);
+    assert_eq!(listed(&x), (vec![vec![0, 0]], vec![1, 1]));
+    let file = text(x.resources, &x.activities, &x.term);
+    assert_eq!(Reference.count(&file, 1), Ok(1));
+    assert_eq!(Reference.count(&file, 0), Err(refusal(7, 0)));
+    assert_eq!(Reference.list(&file, 1, &mut [0; 2]), Ok(1));
+    assert_eq!(Reference.list(&file, 1, &mut [0; 1]), Err(refusal(8, 2)));
+    assert_eq!(Reference.best(&file, 1, &mut [0; 24]), Ok(Best { variant: 0, makespan: 1, count: 1 }));
+}
+
+/// Variants 0 and 1 put two activities on one device in either order, variant 2 has both orders.
+#[test]
+fn active_for_0_and_2() {
+    let x = plan(1, &[(0, 1), (0, 1)], "x,3 s,2 a,0 a,1 s,2 a,1 a,0 p,2 a,0 a,1");
+    assert_eq!(listed(&x), (vec![vec![0, 0, 1], vec![1, 1, 0]], vec![1, 1, 2]));
+    let x = plan(1, &[(0, 1), (0, 1)], "x,3 p,2 a,0 a,1 s,2 a,1 a,0 s,2 a,0 a,1");
+    assert_eq!(listed(&x), (vec![vec![0, 0, 1], vec![0, 1, 0]], vec![2, 1, 1]));
+}
+
+/// Variant 0 has two activities on two devices side by side: that the second waits for the first is feasible there, and
+/// not active.
+#[test]
+fn feasible_is_not_enough() {
+    let x = plan(2, &[(0, 1), (1, 1)], "x,3 p,2 a,0 a,1 s,2 a,0 a,1 p,2 a,1 a,0");
+    assert_eq!(listed(&x), (vec![vec![0, 0, 0], vec![1, 0, 1]], vec![1, 1, 1]));
+}
+
+#[test]
+fn other_activities_are_another_session() {
+    let x = plan(2, &[(0, 1), (1, 1)], "x,4 a,0 p,2 a,0 a,1 a,1 a,0");
+    assert_eq!(listed(&x), (vec![vec![0, 0, MARK], vec![1, 0, 0], vec![2, MARK, 0]], vec![1; 4]));
+}
+
+/// 63 variants, each with the same 24 sessions.
+#[test]
+fn more_variants_than_sessions() {
+    let term = Term::Group(Kind::Pll, (0..4).map(Term::Activity).collect());
+    let activities = [Activity { resource: 0, duration: 1 }; 4];
+    let plan = Plan { resources: 1, activities: activities.into(), term: Term::Group(Kind::Xor, vec![term; 63]) };
+    let (rows, active) = listed(&plan);
+    assert_eq!((rows.len(), active), (24, vec![24; 63]));
+    assert!(rows.iter().all(|row| row[0] == 0));
+}
+
+fn shuffled(random: &mut Random, activities: &[usize]) -> Vec<usize> {
+    let mut shuffled = activities.to_vec();
+    for i in (1..shuffled.len()).rev() {
+        shuffled.swap(i, random.index(i + 1));
+    }
+    shuffled
+}
+
+/// A random term over the activities. An s or p parts them between its children; each child of an x has all or most of
+/// them.
+fn term(random: &mut Random, activities: &[usize], depth: u64) -> Term {
+    if activities.len() == 1 {
+        return Term::Activity(activities[0]);
+    }
+    if depth > 0 && random.once_in(2) {
+        let mut child = || {
+            let most = activities.len() - usize::from(random.once_in(4));
+            let activities = shuffled(random, activities);
+            term(random, &activities[..most], depth - 1)
+        };
+        return Term::Group(Kind::Xor, (0..3).map(|_| child()).collect());
+    }
+    let (first, second) = activities.split_at(1 + random.index(activities.len() - 1));
+    let kind = random.pick(&[Kind::Seq, Kind::Pll]);
+    Term::Group(kind, vec![term(random, first, depth), term(random, second, depth)])
+}
+
+/// Every pair whose session is not among those of a lower variant with the same activities.
+fn by_definition(plan: &Plan) -> Vec<Vec<u16>> {
+    let projects: Vec<Project> =
+        plan.term.variants().iter().map(|chosen| Project::new(&plan.activities, chosen)).collect();
+    let mut rows = vec![];
+    for (variant, project) in projects.iter().enumerate() {
+        let has = |lower: &Project, starts: &[u64]| lower.numbers == project.numbers && lower.is_active(starts);
+        let mut found = active_schedules(project);
+        found.retain(|starts| !projects[..variant].iter().any(|lower| has(lower, starts)));
+        found.sort();
+        rows.extend(found.iter().map(|starts| row_of(plan, variant as u64, project, starts)));
+    }
+    rows
+}
+
+#[test]
+fn random_plans() {
+    let mut random = Random(5);
+    let mut shared = 0;
+    for _ in 0..2000 {
+        let resources = random.between(1, 3);
+        let activity = |_| Activity { resource: random.below(resources), duration: random.between(1, 3) };
+        let activities: Vec<Activity> = (0..4).map(activity).collect();
+        let term = term(&mut random, &[0, 1, 2, 3], 2);
+        let plan = Plan { resources, activities, term };
+        let (rows, active) = listed(&plan);
+        assert_eq!(rows, by_definition(&plan));
+        shared += u64::from(active.iter().sum::<u64>() > rows.len() as u64);
+    }
+    assert!(shared > 500, "{shared}");
+}
