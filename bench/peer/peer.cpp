@@ -15,7 +15,7 @@ constexpr int kActivities = 24;
 constexpr int kResources = 16;
 constexpr int kNodes = 64;
 constexpr int kVariants = 4096;
-constexpr uint16_t kMark = 65535;
+constexpr uint32_t kMark = 4294967295;
 constexpr uint32_t kNever = UINT32_MAX;
 
 struct Plan {
@@ -159,7 +159,7 @@ class Search {
   Search(const Plan &plan, uint64_t cap) : plan_(plan), cap_(cap) {}
 
   // Every variant, or false once there are more schedules than the cap. A row for each goes to `rows`, if there is one.
-  bool run(uint16_t *rows) {
+  bool run(uint32_t *rows) {
     rows_ = rows;
     count_ = 0;
     makespan_ = kNever;
@@ -179,7 +179,7 @@ class Search {
   uint64_t makespan() const { return makespan_; }
   uint64_t best_variant() const { return best_variant_; }
 
-  void best_starts(uint16_t *starts) const {
+  void best_starts(uint32_t *starts) const {
     for (uint32_t i = 0; i < kActivities; i++) starts[i] = start(best_ends_, i);
   }
 
@@ -245,7 +245,7 @@ class Search {
   }
 
   // An absent activity has no end.
-  uint16_t start(const uint32_t *ends, uint32_t i) const {
+  uint32_t start(const uint32_t *ends, uint32_t i) const {
     return i < plan_.activities && ends[i] != 0 ? ends[i] - plan_.duration[i] : kMark;
   }
 
@@ -314,7 +314,7 @@ class Search {
   uint32_t makespan_ = kNever;
   uint32_t best_variant_ = 0;
   uint32_t best_ends_[kActivities];
-  uint16_t *rows_ = nullptr;
+  uint32_t *rows_ = nullptr;
   uint32_t lowers_ = 0;
   Lower lower_[kVariants];
   Orders orders_;
@@ -323,7 +323,7 @@ class Search {
 // By the first cells that differ; `std::array` compares more slowly.
 template <size_t W>
 struct Row {
-  uint16_t cells[W];
+  uint32_t cells[W];
 
   bool operator<(const Row &other) const {
     for (size_t i = 0; i < W; i++) {
@@ -334,7 +334,7 @@ struct Row {
 };
 
 template <size_t W>
-void sort_rows(uint16_t *area, uint64_t count) {
+void sort_rows(uint32_t *area, uint64_t count) {
   auto *rows = reinterpret_cast<Row<W> *>(area);
   std::sort(rows, rows + count);
 }
@@ -354,7 +354,7 @@ void answer(uint64_t *out, uint64_t a, uint64_t b, uint64_t c, uint64_t d) {
 
 }  // namespace
 
-void peer_best(const uint8_t *file, size_t, uint32_t cap, uint16_t *starts, uint64_t *out) {
+void peer_best(const uint8_t *file, size_t, uint32_t cap, uint32_t *starts, uint64_t *out) {
   Plan plan = read(file);
   Search search(plan, cap);
   if (!search.run(nullptr)) return answer(out, 7, 0, 0, 0);
@@ -362,7 +362,7 @@ void peer_best(const uint8_t *file, size_t, uint32_t cap, uint16_t *starts, uint
   answer(out, 0, search.best_variant(), search.makespan(), search.count());
 }
 
-void peer_list(const uint8_t *file, size_t, uint32_t cap, uint16_t *area, size_t area_len, uint64_t *out) {
+void peer_list(const uint8_t *file, size_t, uint32_t cap, uint32_t *area, size_t area_len, uint64_t *out) {
   Plan plan = read(file);
   Search search(plan, cap);
   if (!search.run(nullptr)) return answer(out, 7, 0, 0, 0);

@@ -45,12 +45,12 @@ fn user_time() -> f64 {
 /// A call that is timed, and the buffer that it writes into.
 struct Timed<F> {
     call: F,
-    buffer: Vec<u16>,
+    buffer: Vec<u32>,
     calls: u32,
     best: f64,
 }
 
-impl<T, F: Fn(&mut [u16]) -> T> Timed<F> {
+impl<T, F: Fn(&mut [u32]) -> T> Timed<F> {
     /// A run is as many calls as take some 20 ms.
     fn new(length: usize, call: F) -> Self {
         let mut timed = Timed { call, buffer: vec![0; length], calls: 1, best: f64::INFINITY };
@@ -73,8 +73,8 @@ impl<T, F: Fn(&mut [u16]) -> T> Timed<F> {
 /// have fewer runs.
 fn race<T>(
     length: usize,
-    planner: Option<impl Fn(&mut [u16]) -> T>,
-    peer: impl Fn(&mut [u16]) -> T,
+    planner: Option<impl Fn(&mut [u32]) -> T>,
+    peer: impl Fn(&mut [u32]) -> T,
 ) -> (Option<f64>, f64) {
     let mut planner = planner.map(|call| Timed::new(length, call));
     let mut peer = Timed::new(length, peer);
@@ -141,8 +141,8 @@ fn best_table(title: &str, plans: &[Plan]) {
         let mut starts = [MARK; 24];
         let found = peer::best(file, CAP, &mut starts);
         let sessions = found.map_or(u64::from(CAP) + 1, |best| best.count);
-        let by_planner = |starts: &mut [u16]| planner.best(file, CAP, starts.try_into().unwrap());
-        let by_peer = |starts: &mut [u16]| peer::best(file, CAP, starts.try_into().unwrap());
+        let by_planner = |starts: &mut [u32]| planner.best(file, CAP, starts.try_into().unwrap());
+        let by_peer = |starts: &mut [u32]| peer::best(file, CAP, starts.try_into().unwrap());
         if is_timed(sessions) {
             let mut planned = [MARK; 24];
             assert_eq!((by_planner(&mut planned), planned), (found, starts), "{name}");
@@ -180,8 +180,8 @@ fn listing(Plan { name, file }: &Plan) -> Option<Listing> {
     let (planner, _) = PLANNER;
     let rows = peer::best(file, CAP, &mut [0; 24]).ok()?.count;
     let cells = rows as usize * (parse(file).unwrap().activities.len() + 1);
-    let by_planner = |area: &mut [u16]| planner.list(file, CAP, area);
-    let by_peer = |area: &mut [u16]| peer::list(file, CAP, area);
+    let by_planner = |area: &mut [u32]| planner.list(file, CAP, area);
+    let by_peer = |area: &mut [u32]| peer::list(file, CAP, area);
     if is_timed(rows) {
         let mut areas = [vec![0; cells], vec![0; cells]];
         assert_eq!([by_planner(&mut areas[0]), by_peer(&mut areas[1])], [Ok(rows); 2], "{name}");

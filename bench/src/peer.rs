@@ -4,7 +4,7 @@ use planner::{Answer, Best, Refusal, Timetable};
 
 extern "C" {
     fn peer_best(file: *const u8, file_len: usize, cap: u32, starts: *mut Timetable, out: *mut [u64; 4]);
-    fn peer_list(file: *const u8, file_len: usize, cap: u32, area: *mut u16, area_len: usize, out: *mut [u64; 4]);
+    fn peer_list(file: *const u8, file_len: usize, cap: u32, area: *mut u32, area_len: usize, out: *mut [u64; 4]);
 }
 
 fn answer(out: [u64; 4]) -> Answer<[u64; 3]> {
@@ -22,7 +22,7 @@ pub fn best(file: &[u8], cap: u32, starts: &mut Timetable) -> Answer<Best> {
 }
 
 /// Of an accepted plan's file.
-pub fn list(file: &[u8], cap: u32, area: &mut [u16]) -> Answer<u64> {
+pub fn list(file: &[u8], cap: u32, area: &mut [u32]) -> Answer<u64> {
     let mut out = [0; 4];
     unsafe { peer_list(file.as_ptr(), file.len(), cap, area.as_mut_ptr(), area.len(), &mut out) };
     answer(out).map(|[rows, ..]| rows)

@@ -10,10 +10,10 @@ use borrow.Author.Tests.{ltb-true, lt-ltb, le-ltb, eq-eqb, ne-eqb}
 use lib.Dec.{ltb, eqb, lit<}
 use lib.ListN.{length, getD, take, drop, length-drop}
 use lib.Seq.{take-all, drop-cons, drop-length}
-use Rattle.plan.specs.Limits.{between}
+use Rattle.plan.specs.Limits.{between, wordValues}
 use Rattle.base.specs.Lists.{every}
 use Rattle.format.specs.Lines.{isDigit, isSized, decimal}
-use Rattle.base.proofs.Bools.{by-bool, both, and-left, and-right, elim-true, elim-false}
+use Rattle.base.proofs.Bools.{by-bool, both, and-left, elim-true, elim-false}
 use Rattle.format.proofs.Tests.{between-facts}
 use Rattle.timetable.specs.Mark.{mark, places}
 use Rattle.timetable.specs.declared.Timetable.{Timetable}
@@ -52,11 +52,11 @@ module _ (w : List ℕ) (i n : ℕ) (walked : Walked w i n) where
         small = rw (add-one, pow-suc) (omega (arith, walked .small));
       }
 
-  pub walked-stop : i < length w → isDigit (getD w i 0) ≡ false → 2 ^ 32 ≡ valueIn w
+  pub walked-stop : i < length w → isDigit (getD w i 0) ≡ false → wordValues ≡ valueIn w
   unfolding valueIn
   walked-stop h e =
       let another : every isDigit (drop i w) ≡ false = rw (drop-cons w i 0, e) in
-      sym (elim-false _ (decimal 0 w) (2 ^ 32) (sym (walked .digits) ∙ another))
+      sym (elim-false _ (decimal 0 w) wordValues (sym (walked .digits) ∙ another))
 
   pub walked-end : length w ≤ i → n ≡ valueIn w
   unfolding valueIn decimal
@@ -65,7 +65,7 @@ module _ (w : List ℕ) (i n : ℕ) (walked : Walked w i n) where
       let rest : drop i w ≡ [] = ap (λ (k : ℕ). drop k w) whole ∙ drop-length w in
       let all : every isDigit w ≡ true = sym (walked .digits) ∙ ap (every isDigit) rest in
       let value : n ≡ decimal 0 w = sym (ap (decimal n) rest) ∙ walked .value in
-      value ∙ sym (elim-true _ (decimal 0 w) (2 ^ 32) all)
+      value ∙ sym (elim-true _ (decimal 0 w) wordValues all)
 
 -- A word is a number by its size, its digits and its value.
 module _ (w : List ℕ) (sized : Bool) (is-sized : sized ≡ isSized 10 (length w) (getD w 0 0)) where
@@ -80,23 +80,23 @@ module _ (w : List ℕ) (sized : Bool) (is-sized : sized ≡ isSized 10 (length 
       between-facts 1 10 (length w) fits .1
 
   module _ (e : sized ≡ true) (v : ℕ) (is : v ≡ valueIn w) where
-    pub a-number : v < 2 ^ 32 → Value v ≡ numberIn w
+    pub a-number : v < wordValues → Value v ≡ numberIn w
     unfolding numberIn isNumber valueIn
     a-number h =
         by-bool (every isDigit w)
         (λ d.
-        let value : v ≡ decimal 0 w = is ∙ elim-true _ (decimal 0 w) (2 ^ 32) d in
-        let small : ltb (decimal 0 w) (2 ^ 32) ≡ true = lt-ltb (decimal 0 w) (2 ^ 32) (omega arith) in
+        let value : v ≡ decimal 0 w = is ∙ elim-true _ (decimal 0 w) wordValues d in
+        let small : ltb (decimal 0 w) wordValues ≡ true = lt-ltb (decimal 0 w) wordValues (omega arith) in
         ap Value value ∙ sym (elim-true _ (Value (decimal 0 w)) NoNumber (both (both (sym is-sized ∙ e) d) small)))
-        (λ d. absurd (omega (arith, is ∙ elim-false _ (decimal 0 w) (2 ^ 32) d)))
+        (λ d. absurd (omega (arith, is ∙ elim-false _ (decimal 0 w) wordValues d)))
 
-    pub too-large : 2 ^ 32 ≤ v → NoNumber ≡ numberIn w
+    pub too-large : wordValues ≤ v → NoNumber ≡ numberIn w
     unfolding numberIn isNumber valueIn
     too-large h =
         by-bool (every isDigit w)
         (λ d.
-        let value : v ≡ decimal 0 w = is ∙ elim-true _ (decimal 0 w) (2 ^ 32) d in
-        let large : ltb (decimal 0 w) (2 ^ 32) ≡ false = le-ltb (decimal 0 w) (2 ^ 32) (omega arith) in
+        let value : v ≡ decimal 0 w = is ∙ elim-true _ (decimal 0 w) wordValues d in
+        let large : ltb (decimal 0 w) wordValues ≡ false = le-ltb (decimal 0 w) wordValues (omega arith) in
         sym (elim-false (isNumber w) (Value (decimal 0 w)) NoNumber (rw (← is-sized, e, d, large))))
         (λ d. sym (elim-false (isNumber w) (Value (decimal 0 w)) NoNumber (rw (← is-sized, e, d))))
 
@@ -130,27 +130,23 @@ pub a-start : (i t : ℕ) → i < places → t < mark → At i t ≡ startAt i t
 a-start i t h l =
     sym (elim-true (ltb i places && ltb t mark) (At i t) NoStart (both (lt-ltb i places h) (lt-ltb t mark l)))
 
-startAt-within : (i t i′ t′ : ℕ) → startAt i t ≡ At i′ t′ → (i′ < places) × (t′ < mark)
+startAt-within : (i t i′ t′ : ℕ) → startAt i t ≡ At i′ t′ → i′ < places
 startAt-within i t i′ t′ e =
     by-bool (ltb i places && ltb t mark)
     (λ b.
     let same : At i t ≡ At i′ t′ = sym (elim-true _ (At i t) NoStart b) ∙ e in
     let is : i ≡ i′ = cc in
-    let at : t ≡ t′ = cc in (
-      rw (← is) (ltb-true i places (and-left (ltb i places) (ltb t mark) b)),
-      rw (← at)
-          (ltb-true t mark (and-right (ltb i places) (ltb t mark) b)),
-    ))
+    rw (← is) (ltb-true i places (and-left (ltb i places) (ltb t mark) b)))
     (λ b. let no-start : NoStart ≡ At i′ t′ = sym (elim-false _ (At i t) NoStart b)
     ∙ e in let z : _≡_ {A = ℕ} 0 1 = cc in absurd (omega arith))
 
-startBy-within : (a b : Number) (i t : ℕ) → startBy a b ≡ At i t → (i < places) × (t < mark)
+startBy-within : (a b : Number) (i t : ℕ) → startBy a b ≡ At i t → i < places
 startBy-within (Value i) (Value t) i′ t′ e = startAt-within i t i′ t′ e
 startBy-within (Value i) NoNumber i′ t′ e = let z : _≡_ {A = ℕ} 0 1 = cc in absurd (omega arith)
 startBy-within NoNumber n i′ t′ e = let z : _≡_ {A = ℕ} 0 1 = cc in absurd (omega arith)
 
--- What a word gives is within the limits.
-pub start-within : (w : List ℕ) (i t : ℕ) → startIn w ≡ At i t → (i < places) × (t < mark)
+-- A word gives a start to a number that an activity may have.
+pub start-within : (w : List ℕ) (i t : ℕ) → startIn w ≡ At i t → i < places
 unfolding startIn
 start-within w i t e =
     let parts : Start = startBy (numberIn (take (comma w) w)) (numberIn (drop (comma w + 1) w)) in

@@ -1,10 +1,11 @@
 -- Which words of a command line are numbers, which are an activity and its start, and what they say.
-use Prim.Native.Nat.{ℕ, suc, _+_, _^_}
+use Prim.Native.Nat.{ℕ, suc, _+_}
 use mathlib.Core.Bool.{Bool, true, false, _&&_}
 use mathlib.Core.List.{List, [], _∷_}
 use lib.Dec.{ltb, eqb}
 use lib.ListN.{length, getD, take, drop, set}
 use Rattle.base.specs.Lists.{every}
+use Rattle.plan.specs.Limits.{wordValues}
 use Rattle.format.specs.Lines.{isDigit, isSized, decimal}
 use Rattle.timetable.specs.Mark.{mark, places}
 use Rattle.timetable.specs.declared.Timetable.{Timetable}
@@ -17,7 +18,7 @@ use Rattle.arguments.specs.declared.Placed.{Placed}
 
 -- A number of 32 bits in one to ten decimal digits, with no leading zero and no sign.
 unfoldable pub isNumber : List ℕ → Bool
-isNumber w = isSized 10 (length w) (getD w 0 0) && every isDigit w && ltb (decimal 0 w) (2 ^ 32)
+isNumber w = isSized 10 (length w) (getD w 0 0) && every isDigit w && ltb (decimal 0 w) wordValues
 
 unfoldable pub numberIn : List ℕ → Number
 numberIn w = elim (isNumber w) [ true ↦ Value (decimal 0 w) | false ↦ NoNumber ]
@@ -59,4 +60,4 @@ placedIn t w = placedBy t (startIn w)
 
 -- The value of a word of digits; a word with another byte has one that no number has.
 unfoldable pub valueIn : List ℕ → ℕ
-valueIn w = elim (every isDigit w) [ true ↦ decimal 0 w | false ↦ 2 ^ 32 ]
+valueIn w = elim (every isDigit w) [ true ↦ decimal 0 w | false ↦ wordValues ]

@@ -4,15 +4,13 @@ ghost use mathlib.Core.Bool.{true};
 ghost use mathlib.Core.Path.{_≡_};
 ghost use lib.ListN.{length, getD};
 ghost use Rattle.format.specs.Lines.{isDigit, isSized};
-ghost use Rattle.timetable.specs.Mark.{mark, places};
+ghost use Rattle.timetable.specs.Mark.{places};
 ghost use Rattle.arguments.specs.Words.{numberIn, comma, startAt, startBy, startIn, placedAt, placedIn};
 ghost use Rattle.arguments.specs.Words.{valueIn};
 use timetable::Timetable;
 
-// How many activity numbers there are, and the mark, in the type of a word's number.
+// How many activity numbers there are, in the type of a word's number.
 const ACTS: u32 = plan::MOST_ACTS as u32;
-
-const MARK: u32 = Timetable::MARK as u32;
 
 pub enum Number {
     Value(u32),
@@ -120,7 +118,7 @@ fn start_at(activity: u32, start: u32) -> Start
     if ACTS <= activity {
         return Start::NoStart;
     }
-    if MARK <= start {
+    if Timetable::MARK <= start {
         return Start::NoStart;
     }
     Start::At { activity, start }
@@ -153,7 +151,7 @@ pub fn start_of(word: &[u8]) -> Start
 }
 
 fn place_at(timetable: Timetable, activity: u32, start: u32) -> Placed
-    requires { ⌜ (activity < places) × (start < mark) ⌝ }
+    requires { ⌜ activity < places ⌝ }
     ensures { λ r. ⌜ r ≡ placedAt timetable activity start ⌝ }
 {
     let i = activity as usize;
@@ -164,7 +162,7 @@ fn place_at(timetable: Timetable, activity: u32, start: u32) -> Placed
             timetable,
         };
     }
-    starts[i] = start as u16;
+    starts[i] = start;
     Placed {
         outcome: Placing::Done,
         timetable: Timetable { starts },

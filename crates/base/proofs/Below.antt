@@ -192,6 +192,12 @@ unfolding maxBelow
 max-least zero f b h = zero-le
 max-least (suc n) f b h = omega (arith, max-least n f b (λ i l. h i (omega arith)), h n (omega arith))
 
+-- Of those that are chosen.
+pub max-chosen : (n : ℕ) (chosen : ℕ → Bool) (f : ℕ → ℕ) (b : ℕ) → ((i : ℕ) → i < n → f i ≤ b)
+    → maxBelow n (λ i. cond (chosen i) (f i) 0) ≤ b
+max-chosen n chosen f b h =
+    max-least n (λ i. cond (chosen i) (f i) 0) b (λ i l. omega (arith, cond-le (chosen i) (f i), h i l))
+
 pub max-le : (n : ℕ) (f g : ℕ → ℕ) → ((i : ℕ) → i < n → f i ≤ g i) → maxBelow n f ≤ maxBelow n g
 max-le n f g h = max-least n f (maxBelow n g) (λ i l. omega (arith, h i l, max-term n g i l))
 

@@ -5,7 +5,7 @@ use native.Mathlib.Omega.{arith}
 use mathlib.Core.Path.{_≡_, sym, subst}
 use mathlib.Core.List.{List}
 use Rattle.plan.specs.Outcome.{Outcome}
-use Rattle.plan.specs.Limits.{mostActs}
+use Rattle.plan.specs.Limits.{mostActs, wordValues}
 use Rattle.judge.specs.Judge.{Verdict, judge}
 use Rattle.answers.specs.Count.{countBy, countOf}
 use Rattle.answers.specs.Listed.{listBy, listOf}
@@ -27,6 +27,6 @@ module _ (s : List ℕ) (v : Verdict) (is : judge s ≡ v) (cap : ℕ) where
   unfolding bestOf
   best-of r = subst (λ (x : Verdict). r ≡ bestBy x cap) (sym is)
 
--- The cells of 32 bits of rows, each a variant and at most `mostActs` starts, are a number of 64 bits.
-pub cells-fit : (rows width : ℕ) → rows < 2 ^ 32 → width ≤ mostActs + 1 → rows * width < 2 ^ 64
+-- The cells of so many rows, each a variant and at most `mostActs` starts, are a number of 64 bits.
+pub cells-fit : (rows width : ℕ) → rows < wordValues → width ≤ mostActs + 1 → rows * width < 2 ^ 64
 cells-fit rows width few narrow = omega (arith, mul-le-mul-left rows narrow)

@@ -30,7 +30,7 @@ fn tallied(campaign: Campaign, end: u32, cap: u32) -> Tally
     ensures { λ r.
         ⌜ ((t : Term) → HoldsPlan campaign t → r ≡ swept campaign t cap (kept (noTally end) (0 ∷ [])) .tally) ⌝ }
 {
-    let mut cell = [0u16; 1];
+    let mut cell = [0u32; 1];
     sweep::sweep(campaign, Tally::none(end), cap, &mut cell)
 }
 
@@ -48,7 +48,7 @@ fn counted(campaign: Campaign, cap: u32) -> CountAnswer
 
 // LIST of an accepted plan: nothing is written before it is known that all rows fit. They are written as they are found,
 // then sorted where they lie.
-fn listed(campaign: Campaign, cap: u32, area: &mut [u16]) -> ListAnswer
+fn listed(campaign: Campaign, cap: u32, area: &mut [u32]) -> ListAnswer
     requires { ⌜ ((t : Term) × HoldsPlan campaign t) ⌝ }
     ensures { λ r.
         ⌜ ((t : Term) → HoldsPlan campaign t
@@ -107,7 +107,7 @@ pub fn count(file: &[u8], cap: u32) -> CountAnswer
 }
 
 // LIST: the rows of COUNT's pairs in their order, from the front of the area.
-pub fn list(file: &[u8], cap: u32, area: &mut [u16]) -> ListAnswer
+pub fn list(file: &[u8], cap: u32, area: &mut [u32]) -> ListAnswer
     ensures { λ r.
         ⌜ record { answer = r; area = now (area .exit) }
         ≡ listOf (now (file .entry)) cap (now (area .entry)) ⌝ }

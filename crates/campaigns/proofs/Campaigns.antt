@@ -18,14 +18,13 @@ use Rattle.read.proofs.Model.{readBy, read-by}
 use Rattle.format.specs.Lines
 use Rattle.format.specs.Text.{text, actLines, nodeLines}
 use Rattle.base.specs.Below.{everyBelow, sumBelow, maxBelow}
-use Rattle.schedule.specs.Schedule.{feasible, placed, inOrder, withinCapacity, load, latestEnd, earliestStart, makespan}
+use Rattle.schedule.specs.Schedule.{latestEnd, earliestStart, makespan}
 use Rattle.variant.specs.Precedence.{precedes}
 use Rattle.variant.specs.Project.{projectOf}
 use Rattle.variant.specs.Written.{written, variantPlan, dissolved, joined}
-use Rattle.variant.specs.Timetable.{isSession, isMarked}
+use Rattle.feasibility.specs.Model.{marksRight, placeRight, placesRight}
 use Rattle.write.specs.Answer.{writeOf}
 use Rattle.write.specs.declared.WriteAnswer.the-variants.{Written}
-use Rattle.inspect.specs.Answer.{checkOf}
 use Rattle.answers.specs.Shortest.{noBest}
 use Rattle.answers.specs.declared.BestAnswer.the-variants.{Found}
 use Rattle.campaigns.specs.Table.{Row, reads, has-variants, writes, checks, counts, lists, spans, finds, stops}
@@ -38,6 +37,7 @@ use Rattle.scan.specs.Union.{isSoonest, activeUnder, isNewIn}
 use Rattle.variant.specs.Tables.{setOf, tablesOf}
 use Rattle.campaigns.proofs.Searched.{found, countModel, count-is, listModel, list-is, bestModel, best-is}
 use Rattle.campaigns.proofs.Searched.{spansModel, hasModel, spans-is}
+use Rattle.campaigns.proofs.Checked.{checkModel, check-is}
 use Rattle.campaigns.proofs.Variants.{variantsBy, variants-are}
 use Rattle.campaigns.proofs.Tests.{sameNumber, number-same, sameList, list-same, sameCount, count-same}
 use Rattle.campaigns.proofs.Tests.{sameRead, read-same, sameWrite, write-same, sameCheck, check-same}
@@ -49,7 +49,7 @@ test (has-variants s n) = sameNumber (variantsBy s) n
 test (writes s v bytes) =
     sameOutcome sameWrite (writeOf s v lent)
     (record { answer = Written (length bytes); area = bytes ++ drop (length bytes) lent })
-test (checks s v starts answer) = sameCheck (checkOf s v starts) answer
+test (checks s v starts answer) = sameCheck (checkModel s v starts) answer
 test (counts s cap answer) = sameCount (countModel s cap) answer
 test (lists s cap cells answer rows) =
     sameOutcome sameListing (listModel s cap (sevens cells))
@@ -64,7 +64,7 @@ test-holds : (row : Row) → test row ≡ true → Holds row
 test-holds (reads s answer) e = read-by s ∙ read-same (readBy s) answer e
 test-holds (has-variants s n) e = variants-are s n (number-same (variantsBy s) n e)
 test-holds (writes s v bytes) e = outcome-same sameWrite write-same (writeOf s v lent) _ e
-test-holds (checks s v starts answer) e = check-same (checkOf s v starts) answer e
+test-holds (checks s v starts answer) e = check-is s v starts ∙ check-same (checkModel s v starts) answer e
 test-holds (counts s cap answer) e = count-is s cap ∙ count-same (countModel s cap) answer e
 test-holds (lists s cap cells answer rows) e =
     list-is s cap (sevens cells) ∙ outcome-same sameListing listing-same (listModel s cap (sevens cells)) _ e
@@ -76,9 +76,9 @@ test-holds (stops s cap r) e = best-is s cap ∙ best-same (bestModel s cap) _ e
 
 all-pass : every test table ≡ true
 unfolding table readBy variantsBy parse planLines aLine tested theLines theEnd matched digits isValue decimal termOf
-    forest place size firsts others activities member some-of count clash share writeOf checkOf judge twice repeats
+    forest place size firsts others activities member some-of count clash share writeOf checkModel judge twice repeats
     variants paired variantCount written variantPlan dissolved joined text actLines nodeLines filled Lines.numeral nodes
-    isSession isMarked feasible placed inOrder withinCapacity load latestEnd earliestStart makespan everyBelow sumBelow
+    marksRight placesRight placeRight latestEnd earliestStart makespan everyBelow sumBelow
     maxBelow projectOf precedes countModel listModel spansModel hasModel bestModel found sorted keep cellsOf problemOf
     tablesOf setOf gather scanned leaves branches root freeze isChoice key keyOf leastBelow isOpen finish earliest ready
     Sets.size has meet starts startOf isNewIn activeUnder isSoonest

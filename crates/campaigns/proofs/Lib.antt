@@ -2,4 +2,5 @@
 pub mod Tests
 pub mod Variants
 pub mod Searched
+pub mod Checked
 pub mod Campaigns

@@ -147,6 +147,17 @@ threeShortest = file "plan=1/res=1/acts=3/act=0,1/act=0,1/act=0,1/nodes=5/node=p
 abbrev pub example2 : List ℕ
 example2 = file "plan=1/res=4/acts=8/act=0,1/act=1,2/act=2,2/act=1,1/act=0,1/act=0,2/act=3,1/act=1,2/nodes=13/node=p,4/node=s,2/node=p,2/node=a,0/node=a,1/node=a,2/node=s,2/node=a,3/node=a,4/node=a,5/node=s,2/node=a,6/node=a,7"
 
+-- Soak tests: two sequences side by side and one more after both; two activities on one resource, in sequence and side
+-- by side.
+abbrev pub soak : List ℕ
+soak = file "plan=1/res=2/acts=6/act=0,16000/act=0,12000/act=0,20000/act=1,20000/act=0,20000/act=1,20000/nodes=10/node=s,2/node=p,2/node=s,2/node=a,0/node=a,1/node=s,3/node=a,2/node=a,3/node=a,4/node=a,5"
+
+abbrev pub longInSequence : List ℕ
+longInSequence = file "plan=1/res=1/acts=2/act=0,20000/act=0,20000/nodes=3/node=s,2/node=a,0/node=a,1"
+
+abbrev pub longSideBySide : List ℕ
+longSideBySide = file "plan=1/res=1/acts=2/act=0,20000/act=0,20000/nodes=3/node=p,2/node=a,0/node=a,1"
+
 abbrev pub dotRows : List (List ℕ)
 dotRows =
     (0 ∷ 0 ∷ absent ∷ absent ∷ 4 ∷ 4 ∷ [])
@@ -174,6 +185,14 @@ example2Rows =
     ∷ (0 ∷ 3 ∷ 3 ∷ 5 ∷ 0 ∷ 2 ∷ 0 ∷ 0 ∷ 1 ∷ [])
     ∷ []
 
+abbrev pub soakRows : List (List ℕ)
+soakRows =
+    (0 ∷ 0 ∷ 16000 ∷ 28000 ∷ 48000 ∷ 68000 ∷ 88000 ∷ [])
+    ∷ (0 ∷ 0 ∷ 36000 ∷ 16000 ∷ 36000 ∷ 56000 ∷ 76000 ∷ [])
+    ∷ (0 ∷ 20000 ∷ 36000 ∷ 0 ∷ 20000 ∷ 48000 ∷ 68000 ∷ [])
+    ∷ (0 ∷ 20000 ∷ 60000 ∷ 0 ∷ 20000 ∷ 40000 ∷ 72000 ∷ [])
+    ∷ []
+
 -- The eleven x of activities 2 and 3, 4 and 5 and so on.
 abbrev elevenChoices : List ℕ
 elevenChoices =
@@ -196,7 +215,9 @@ table =
     reads dotTest (Read 5 9 2)
     -- Durations on both sides of their limits, and a leading zero.
     ∷ reads (file "plan=1/res=1/acts=1/act=0,2000/nodes=1/node=a,0") (Read 1 1 1)
-    ∷ reads (file "plan=1/res=1/acts=1/act=0,2001/nodes=1/node=a,0") (Refused (Range 4))
+    ∷ reads (file "plan=1/res=1/acts=1/act=0,2001/nodes=1/node=a,0") (Read 1 1 1)
+    ∷ reads (file "plan=1/res=1/acts=1/act=0,20000/nodes=1/node=a,0") (Read 1 1 1)
+    ∷ reads (file "plan=1/res=1/acts=1/act=0,20001/nodes=1/node=a,0") (Refused (Range 4))
     ∷ reads (file "plan=1/res=1/acts=1/act=0,0/nodes=1/node=a,0") (Refused (Range 4))
     ∷ reads (file "plan=1/res=1/acts=1/act=0,04/nodes=1/node=a,0") (Refused (Form 4))
     -- A group of one has its own number, on whichever line it stands, whatever else is wrong with the term. Other
@@ -249,6 +270,17 @@ table =
     ∷ checks dotTest 1 (timetable (absent ∷ 0 ∷ 2 ∷ 5 ∷ 5 ∷ [])) (Checked true)
     ∷ checks dotTest 0 (timetable (0 ∷ absent ∷ absent ∷ 4 ∷ [])) (Checked false)
     ∷ checks dotTest 0 (timetable (0 ∷ 0 ∷ absent ∷ 4 ∷ 4 ∷ [])) (Checked false)
+    -- 65535 is a start like any other: of a present activity, and not the mark of an absent one.
+    ∷ checks dotTest 0 (timetable (0 ∷ absent ∷ absent ∷ 65535 ∷ 4 ∷ [])) (Checked true)
+    ∷ checks dotTest 0 (timetable (0 ∷ 65535 ∷ absent ∷ 4 ∷ 4 ∷ [])) (Checked false)
+    ∷ checks soak 0 (timetable (37535 ∷ 53535 ∷ 17535 ∷ 37535 ∷ 65535 ∷ 85535 ∷ [])) (Checked true)
+    ∷ checks soak 0 (timetable (20000 ∷ 36000 ∷ 0 ∷ 20000 ∷ 48000 ∷ 65535 ∷ [])) (Checked false)
+    -- Ends at 2^32 and past it: the first does not end on tick 0, nor by the start of the second.
+    ∷ checks longInSequence 0 (timetable (4294947294 ∷ 4294967294 ∷ [])) (Checked true)
+    ∷ checks longInSequence 0 (timetable (4294947295 ∷ 4294967294 ∷ [])) (Checked false)
+    ∷ checks longInSequence 0 (timetable (4294947296 ∷ 0 ∷ [])) (Checked false)
+    ∷ checks longSideBySide 0 (timetable (4294967294 ∷ 0 ∷ [])) (Checked true)
+    ∷ checks longSideBySide 0 (timetable (4294947296 ∷ 4294960000 ∷ [])) (Checked false)
     -- In sequence, also where the two may stand side by side: feasible for variant 0, though not active.
     ∷ checks feasibleBelow 1 (timetable (0 ∷ 1 ∷ [])) (Checked true)
     ∷ checks feasibleBelow 0 (timetable (0 ∷ 1 ∷ [])) (Checked true)
@@ -305,6 +337,12 @@ table =
     ∷ lists threeShortest 3 12 (Listed 3) ((0 ∷ 1 ∷ 2 ∷ 0 ∷ []) ∷ (0 ∷ 2 ∷ 0 ∷ 1 ∷ []) ∷ (0 ∷ 2 ∷ 1 ∷ 0 ∷ []) ∷ [])
     ∷ spans example2 0 (5 ∷ 6 ∷ 5 ∷ 5 ∷ 7 ∷ 7 ∷ 5 ∷ 6 ∷ 5 ∷ 7 ∷ 6 ∷ 7 ∷ [])
     ∷ lists example2 12 108 (Listed 12) example2Rows
+    -- Starts and makespans over 65535.
+    ∷ reads soak (Read 6 10 1)
+    ∷ spans soak 0 (108000 ∷ 96000 ∷ 88000 ∷ 92000 ∷ [])
+    ∷ counts soak 4 (Counted 4)
+    ∷ lists soak 4 28 (Listed 4) soakRows
+    ∷ lists soak 4 27 (ListAnswers.Refused (AreaTooShort 28)) []
     -- BEST. The dot test with the program's cap, and caps on both sides of the number of its sessions.
     ∷ finds dotTest 1000000 0 10 3 (0 ∷ absent ∷ absent ∷ 4 ∷ 4 ∷ [])
     ∷ finds dotTest 3 0 10 3 (0 ∷ absent ∷ absent ∷ 4 ∷ 4 ∷ [])
@@ -326,4 +364,7 @@ table =
     ∷ finds freeResourceWaits 1000000 0 22 2 (2 ∷ 0 ∷ 1 ∷ 2 ∷ [])
     ∷ finds threeShortest 1000000 0 3 3 (1 ∷ 2 ∷ 0 ∷ [])
     ∷ finds example2 1000000 0 5 12 (0 ∷ 0 ∷ 2 ∷ 2 ∷ 3 ∷ 1 ∷ 0 ∷ 3 ∷ [])
+    -- A shortest session that is longer than 65535, the third of four.
+    ∷ finds soak 1000000 0 88000 4 (20000 ∷ 36000 ∷ 0 ∷ 20000 ∷ 48000 ∷ 68000 ∷ [])
+    ∷ stops soak 3 OverCap
     ∷ []

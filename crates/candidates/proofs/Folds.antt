@@ -10,7 +10,7 @@ use Rattle.base.proofs.Below.{max-eq}
 use Rattle.base.specs.Below.{maxBelow}
 use Rattle.sets.specs.Sets.{most, has}
 use Rattle.scan.specs.Model.{never, leastBelow}
-use Rattle.plan.specs.Limits.{packing, cellValues}
+use Rattle.plan.specs.Limits.{packing, latestPossible}
 use Rattle.sets.proofs.Members.{members, fold-members}
 use Rattle.network.specs.Network.{resourceAt}
 use Rattle.candidates.specs.Work.{endAt, latestOf, soonAt, keyAt, leastAt, choiceAt, Timed, readyFrom, freeFrom}
@@ -52,8 +52,8 @@ key-fold t w cands =
 -- ---- one candidate's earliest start, and whether it is a choice
 
 module _ (t w : List ℕ) (i : ℕ) where
-  pub soon-fits : Timed t w → soonAt t w i < cellValues
-  soon-fits fit = omega (arith, fit .times (readyFrom + i), fit .times (freeFrom + resourceAt t i))
+  pub soon-early : Timed t w → soonAt t w i ≤ latestPossible
+  soon-early fit = omega (arith, fit .times (readyFrom + i), fit .times (freeFrom + resourceAt t i))
 
   module _ (k : ℕ) where
     pub choice-elsewhere : (resourceAt t i ≡ k % packing → ⊥) → never ≡ choiceAt t w k i

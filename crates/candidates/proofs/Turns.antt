@@ -3,7 +3,7 @@
 use Prim.Native.Nat.{ℕ, _+_, _-_, _^_, _≤_, _<_}
 use native.Mathlib.Decide.{ℕ-discrete}
 use native.Mathlib.Omega.{arith}
-use mathlib.Core.Bool.{Bool, true, false, cond, not, _&&_, _||_, and-false, and-true, or-true, or-false}
+use mathlib.Core.Bool.{Bool, true, false, not, _&&_, _||_, and-false, and-true, or-true, or-false}
 use mathlib.Core.List.{List}
 use mathlib.Core.Logic.{_≢_, by-cases}
 use mathlib.Core.Path.{_≡_, refl, sym, ap, ap₂, _∙_}
@@ -14,10 +14,10 @@ use lib.Pow.{pow-lt}
 use lib.Seq.{getD-set-same, getD-set-other}
 use borrow.Author.Tests.{eq-eqb, ne-eqb}
 use Rattle.base.proofs.Bools.{true-not-false, both, and-left, and-right}
-use Rattle.base.proofs.Below.{cond-le, max-least}
+use Rattle.base.proofs.Below.{max-chosen}
 use Rattle.sets.proofs.Laws.{has-none, has-with, has-without}
 use Rattle.sets.specs.Sets.{most, has, meet}
-use Rattle.plan.specs.Limits.{cellValues}
+use Rattle.plan.specs.Limits.{latestPossible}
 use Rattle.sets.proofs.Members.{lowest-is, lowest-has, lowest-below, after-less}
 use Rattle.sets.specs.Lowest.{lowestOf, afterLowest}
 use Rattle.network.specs.Network.{predsAt, nextAt, nearAt, resourceAt}
@@ -158,15 +158,10 @@ module _ (t : List ℕ) (left cands i : ℕ) (w : List ℕ) where
             same = so-far .same;
           }
 
-      latest-fits : (set : ℕ) → latestOf w′ set < cellValues
-      latest-fits set =
-          omega (
-            arith,
-            max-least most (λ k. cond (has set k) (endAt w′ k) 0) (cellValues - 1)
-                λ k l. omega (arith, cond-le (has set k) (endAt w′ k), so-far .timed .times k),
-          )
+      latest-early : (set : ℕ) → latestOf w′ set ≤ latestPossible
+      latest-early set = max-chosen most (has set) (endAt w′) latestPossible (λ k l. so-far .timed .times k)
 
-      stored : (x : ℕ) → x < cellValues → (k : ℕ) → getD (set w′ (readyFrom + j) x) k 0 < cellValues
+      stored : (x : ℕ) → x ≤ latestPossible → (k : ℕ) → getD (set w′ (readyFrom + j) x) k 0 ≤ latestPossible
       stored x h k =
           by-cases
           (ℕ-discrete k (readyFrom + j))
@@ -190,7 +185,7 @@ module _ (t : List ℕ) (left cands i : ℕ) (w : List ℕ) where
             timed =
                 record {
                   durations = so-far .timed .durations;
-                  times = stored x (omega (arith, latest-fits (nearAt t j)));
+                  times = stored x (omega (arith, latest-early (nearAt t j)));
                   size = length-set w′ (readyFrom + j) x ∙ so-far .timed .size;
                 };
             low = with-low all j (so-far .low) (turn .below);

@@ -1,6 +1,6 @@
 -- The working array of the search: the end of each frozen activity, when the predecessors of each candidate have
 -- ended, and the last frozen end on each resource; and what the functions that read it find.
-use Prim.Native.Nat.{ℕ, _+_, _*_, _/_, _%_, _^_, _<_, max}
+use Prim.Native.Nat.{ℕ, _+_, _*_, _/_, _%_, _^_, _≤_, _<_, max}
 use mathlib.Core.Bool.{Bool, true, cond, not, _&&_, _||_}
 use mathlib.Core.List.{List}
 use mathlib.Core.Path.{_≡_}
@@ -8,7 +8,7 @@ use lib.Dec.{eqb, ltb}
 use lib.ListN.{length, getD}
 use Rattle.base.specs.Below.{maxBelow}
 use Rattle.sets.specs.Sets.{most, has, meet, width}
-use Rattle.plan.specs.Limits.{mostResources, packing, cellValues}
+use Rattle.plan.specs.Limits.{mostResources, packing, longestDuration, latestPossible}
 use Rattle.scan.specs.Model.{never, leastBelow}
 use Rattle.sets.specs.Lowest.{afterLowest}
 use Rattle.network.specs.Network.{packedAt, predsAt, nextAt, nearAt, durationAt, resourceAt}
@@ -55,10 +55,10 @@ unfoldable pub choiceAt : List ℕ → List ℕ → ℕ → ℕ → ℕ
 choiceAt t w key i =
     cond (eqb (resourceAt t i) (key % packing) && ltb (soonAt t w i) (key / packing)) (finishAt t w i) never
 
--- Every time fits a cell of LIST, so that a sum of two and a key fit a word.
+-- No time is later than a session can end, so that a sum of times and a key fit a word.
 pub record Timed (t w : List ℕ) : Type 0 where
-  pub durations : (i : ℕ) → i < most → durationAt t i < cellValues
-  pub times : (k : ℕ) → getD w k 0 < cellValues
+  pub durations : (i : ℕ) → i < most → durationAt t i ≤ longestDuration
+  pub times : (k : ℕ) → getD w k 0 ≤ latestPossible
   pub size : length w ≡ workCells
 
 -- Activity j waits for i alone, where `left` is left with i frozen.

@@ -19,7 +19,7 @@ pub const CELLS: usize = 65536;
 pub const MOST: u32 = 4294967295;
 
 // What stands in an area before LIST: no variant and no start is that large, and the mark is larger.
-const BLANK: u16 = 60000;
+const BLANK: u32 = 4000000000;
 
 fn wide(n: u32) -> u64 {
     n as u64
@@ -65,7 +65,7 @@ fn list_refuses(r: Refusal, cap: u32, cells: usize, e: Enumerated) -> bool {
 }
 
 // LIST has the enumerator's rows in their order, if they are within cap and area, and leaves every other cell.
-fn list_in(file: &[u8], cap: u32, area: &mut [u16], e: Enumerated, own: &[u16]) -> bool {
+fn list_in(file: &[u8], cap: u32, area: &mut [u32], e: Enumerated, own: &[u32]) -> bool {
     match calls::list(file, cap, area) {
         ListAnswer::Listed(rows) => {
             let has_room = (e.count <= cap) & (e.cells <= area.len());
@@ -76,7 +76,7 @@ fn list_in(file: &[u8], cap: u32, area: &mut [u16], e: Enumerated, own: &[u16]) 
     }
 }
 
-pub fn list_agrees(file: &[u8], cap: u32, cells: usize, e: Enumerated, own: &[u16]) -> bool {
+pub fn list_agrees(file: &[u8], cap: u32, cells: usize, e: Enumerated, own: &[u32]) -> bool {
     if CELLS < cells {
         return false;
     }
@@ -85,14 +85,14 @@ pub fn list_agrees(file: &[u8], cap: u32, cells: usize, e: Enumerated, own: &[u1
 }
 
 // Is a session this row, with the mark where the row has it?
-fn is_row(variant: u64, makespan: u64, starts: [u16; ACTS], row: Row) -> bool {
+fn is_row(variant: u64, makespan: u64, starts: [u32; ACTS], row: Row) -> bool {
     let own = row.starts;
     let is_as_long = makespan == wide(row.makespan);
-    (variant == row.variant as u64) & is_as_long & is_same(&starts, &own, ACTS)
+    (variant == wide(row.variant)) & is_as_long & is_same(&starts, &own, ACTS)
 }
 
 // BEST has the enumerator's first shortest row, if the rows are within the cap. No feasible session is shorter.
-fn best_agrees(file: &[u8], cap: u32, e: Enumerated, own: &[u16]) -> bool {
+fn best_agrees(file: &[u8], cap: u32, e: Enumerated, own: &[u32]) -> bool {
     let best = calls::best(file, cap);
     let answer = best.answer;
     let timetable = best.timetable;
@@ -112,13 +112,13 @@ fn best_agrees(file: &[u8], cap: u32, e: Enumerated, own: &[u16]) -> bool {
 }
 
 // The calls that take a cap, with the largest area.
-fn cap_agrees(file: &[u8], cap: u32, e: Enumerated, own: &[u16]) -> bool {
+fn cap_agrees(file: &[u8], cap: u32, e: Enumerated, own: &[u32]) -> bool {
     let is_listed = list_agrees(file, cap, CELLS, e, own);
     count_agrees(file, cap, e) & is_listed & best_agrees(file, cap, e, own)
 }
 
 // All calls, on both sides of the least cap and the least area that give an answer.
-fn agrees(file: &[u8], e: Enumerated, own: &[u16]) -> bool {
+fn agrees(file: &[u8], e: Enumerated, own: &[u32]) -> bool {
     if e.count == 0 {
         return false;
     }
@@ -140,7 +140,7 @@ pub struct Comparison {
 }
 
 pub fn compared(file: &[u8]) -> Comparison {
-    let mut own = [0u16; CELLS];
+    let mut own = [0u32; CELLS];
     let e = enumerator::enumerate(file, &mut own);
     let known = is_known(e);
     Comparison {

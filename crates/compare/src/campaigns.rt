@@ -45,7 +45,7 @@ fn put_read(name: &[u8], file: &[u8]) {
 
 // LIST in an area of so many cells.
 fn put_list(name: &[u8], file: &[u8], cells: usize) {
-    let mut own = [0u16; CELLS];
+    let mut own = [0u32; CELLS];
     let e = enumerator::enumerate(file, &mut own);
     put_agree(name, is_known(e), list_agrees(file, MOST, cells, e, &own));
     if cells < e.cells {
@@ -82,6 +82,12 @@ fn put_sessions() {
     put_all_calls(b"three_shortest", &samples::three_shortest());
 }
 
+fn put_durations() {
+    put_all_calls(b"duration_2001", &samples::duration_2001());
+    put_all_calls(b"duration_20000", &samples::duration_20000());
+    put_all_calls(b"soak", &samples::soak());
+}
+
 fn put_variants() {
     put_read(b"twelve_choices", &samples::twelve_choices());
     put_read(
@@ -92,19 +98,20 @@ fn put_variants() {
 
 fn put_lengths() {
     put_read(b"empty_file", b"");
-    put_read(b"file_of_960_bytes", &[b'a'; 960]);
+    put_read(b"file_of_984_bytes", &[b'a'; 984]);
 }
 
 fn put_faults() {
     put_read(b"twice_under_p", &samples::twice_under_p());
     put_read(b"leading_zero", &samples::leading_zero());
-    put_read(b"duration_2001", &samples::duration_2001());
+    put_read(b"duration_20001", &samples::duration_20001());
     put_read(b"group_of_one", &samples::group_of_one());
 }
 
 pub fn put_all() {
     put_dot_test(&samples::dot_test());
     put_sessions();
+    put_durations();
     put_variants();
     put_lengths();
     put_faults();

@@ -4,7 +4,7 @@ use enumerator::ABSENT;
 use enumerator::Enumerated;
 use plain::ACTS;
 
-fn cell(area: &[u16], at: usize) -> u16 {
+fn cell(area: &[u32], at: usize) -> u32 {
     if at < area.len() { area[at] } else { 0 }
 }
 
@@ -14,7 +14,7 @@ fn on(at: usize, cells: usize) -> usize {
 }
 
 // Are the first cells of two areas the same?
-pub fn is_same(area: &[u16], other: &[u16], cells: usize) -> bool {
+pub fn is_same(area: &[u32], other: &[u32], cells: usize) -> bool {
     for i in 0..cells {
         if cell(area, i) != cell(other, i) {
             return false;
@@ -24,7 +24,7 @@ pub fn is_same(area: &[u16], other: &[u16], cells: usize) -> bool {
 }
 
 // Do the cells from a place on all hold this?
-pub fn hold(area: &[u16], from: usize, content: u16) -> bool {
+pub fn hold(area: &[u32], from: usize, content: u32) -> bool {
     for i in from..area.len() {
         if area[i] != content {
             return false;
@@ -35,12 +35,12 @@ pub fn hold(area: &[u16], from: usize, content: u16) -> bool {
 
 // A session: its variant, its makespan and its starts, with the mark behind the plan's activities.
 pub struct Row {
-    pub variant: u16,
+    pub variant: u32,
     pub makespan: u32,
-    pub starts: [u16; ACTS],
+    pub starts: [u32; ACTS],
 }
 
-fn start(area: &[u16], at: usize, acts: usize, i: usize) -> u16 {
+fn start(area: &[u32], at: usize, acts: usize, i: usize) -> u32 {
     if i < acts {
         cell(area, on(at, i))
     } else {
@@ -49,7 +49,7 @@ fn start(area: &[u16], at: usize, acts: usize, i: usize) -> u16 {
 }
 
 // The starts from a place on.
-fn starts_at(area: &[u16], at: usize, acts: usize) -> [u16; ACTS] {
+fn starts_at(area: &[u32], at: usize, acts: usize) -> [u32; ACTS] {
     let mut starts = [ABSENT; ACTS];
     for i in 0..ACTS {
         starts[i] = start(area, at, acts, i);
@@ -57,7 +57,7 @@ fn starts_at(area: &[u16], at: usize, acts: usize) -> [u16; ACTS] {
     starts
 }
 
-fn row_at(file: &[u8], area: &[u16], at: usize, acts: usize) -> Row {
+fn row_at(file: &[u8], area: &[u32], at: usize, acts: usize) -> Row {
     let starts = starts_at(area, on(at, 1), acts);
     Row {
         variant: cell(area, at),
@@ -67,7 +67,7 @@ fn row_at(file: &[u8], area: &[u16], at: usize, acts: usize) -> Row {
 }
 
 // The first row of the least makespan, of the enumerator's rows.
-pub fn shortest(file: &[u8], e: Enumerated, own: &[u16]) -> Row {
+pub fn shortest(file: &[u8], e: Enumerated, own: &[u32]) -> Row {
     let mut best = row_at(file, own, 0, e.acts);
     let mut at = 0usize;
     for k in 0..e.count {

@@ -72,7 +72,7 @@ pub fn put_refusal(refusal: Refusal) -> bool {
 // The line that says in words why a call refused.
 pub fn put_reason(refusal: Refusal) -> bool {
     match refusal {
-        Refusal::Length => put(b"reason=The plan file is empty or longer than 959 bytes.\n"),
+        Refusal::Length => put(b"reason=The plan file is empty or longer than 983 bytes.\n"),
         Refusal::Form(_) => put(
             b"reason=The line of that number is absent or ill formed, or follows the last line of the plan.\n",
         ),
@@ -94,7 +94,7 @@ pub fn put_reason(refusal: Refusal) -> bool {
 }
 
 // The start of an activity that is present.
-fn put_start(activity: usize, start: u16) -> bool {
+fn put_start(activity: usize, start: u32) -> bool {
     if start == Timetable::MARK {
         return true;
     }

@@ -5,6 +5,7 @@ mod placing;
 mod relation;
 mod rows;
 mod session;
+mod unit;
 
 use placing::Search;
 use plain::ACTS;
@@ -12,7 +13,7 @@ use plain::Picks;
 use plain::Plan;
 
 // The start of an activity that is absent.
-pub const ABSENT: u16 = 65535;
+pub const ABSENT: u32 = 4294967295;
 
 // The number of activities, and what the variants have together: the number of their active sessions, each counted
 // once, the least makespan of a feasible session, and how many cells the rows of the active ones take. Where the file
@@ -26,14 +27,15 @@ pub struct Enumerated {
 }
 
 // The sessions of one more variant, that of the picks.
-fn with_variant(file: &[u8], p: Plan, picks: Picks, s: Search, area: &mut [u16]) -> Search {
+fn with_variant(file: &[u8], p: Plan, picks: Picks, s: Search, area: &mut [u32]) -> Search {
     let v = plain::picked(p, picks);
     let relations = relation::relations(p, v);
     let duration = v.duration;
     let mut t = s;
     t.room = v.room;
+    t.unit = unit::unit(&duration);
     t = placing::place(file, &relations, &duration, [ABSENT; ACTS], 0, t, area);
-    t.variant = std::num::wrapping_add_u16(s.variant, 1);
+    t.variant = std::num::wrapping_add_u32(s.variant, 1);
     t
 }
 
@@ -41,7 +43,7 @@ fn next_picks(p: Plan, picks: Picks) -> Picks {
     plain::next(picks, plain::picked(p, picks), p)
 }
 
-fn over_variants(file: &[u8], p: Plan, variants: u32, area: &mut [u16]) -> Search {
+fn over_variants(file: &[u8], p: Plan, variants: u32, area: &mut [u32]) -> Search {
     let mut s = placing::start(p.acts);
     let mut picks = plain::first();
     for i in 0..variants {
@@ -64,7 +66,7 @@ fn unknown() -> Enumerated {
 // The active sessions of a plan, each once under the lowest variant that it is active for, their rows from the front of
 // the area: by variant, then by the start of activity 0, then of activity 1, and so on. A row that does not fit is left
 // out.
-pub fn enumerate(file: &[u8], area: &mut [u16]) -> Enumerated {
+pub fn enumerate(file: &[u8], area: &mut [u32]) -> Enumerated {
     let judged = plain::judge(file);
     if !judged.known | (judged.number != 0) {
         return unknown();
@@ -80,7 +82,7 @@ pub fn enumerate(file: &[u8], area: &mut [u16]) -> Enumerated {
 }
 
 // The makespan of a session that has these starts.
-pub fn makespan(file: &[u8], starts: &[u16; ACTS]) -> u32 {
+pub fn makespan(file: &[u8], starts: &[u32; ACTS]) -> u32 {
     let p = plain::read(file);
     let duration = p.duration;
     session::makespan(session::spanned(&duration, starts))

@@ -1,21 +1,24 @@
-// Every feasible session of a variant whose starts are at most the sum of its durations.
+// Every feasible session of a variant whose starts are multiples of its unit, at most the sum of its durations.
 use crate::lower::is_active_below;
 use crate::relation::PAIRS;
 use crate::session::active;
 use crate::session::fits;
 use crate::session::makespan;
 use crate::session::spanned;
+use crate::unit::multiples;
 use plain::ACTS;
 
 // A search ends when it has tried about this many starts, not counting those for lower variants.
 pub const LIMIT: u32 = 1000000000;
 
-// A search under way: the number of activities, the number of the variant and one more than the sum of its durations,
-// and of all variants so far the active sessions, the least makespan, the cells of the rows and the starts tried.
+// A search under way: the number of activities, the number of the variant, one more than the sum of its durations and
+// its unit, and of all variants so far the active sessions, the least makespan, the cells of the rows and the starts
+// tried.
 pub struct Search {
     pub acts: usize,
-    pub variant: u16,
-    pub room: u16,
+    pub variant: u32,
+    pub room: u32,
+    pub unit: u32,
     pub count: u32,
     pub makespan: u32,
     pub cells: usize,
@@ -27,6 +30,7 @@ pub fn start(acts: usize) -> Search {
         acts,
         variant: 0,
         room: 0,
+        unit: 0,
         count: 0,
         makespan: 4294967295,
         cells: 0,
@@ -34,7 +38,7 @@ pub fn start(acts: usize) -> Search {
     }
 }
 
-fn with_active(area: &mut [u16], starts: &[u16; ACTS], s: Search) -> Search {
+fn with_active(area: &mut [u32], starts: &[u32; ACTS], s: Search) -> Search {
     let mut t = s;
     t.count = std::num::wrapping_add_u32(s.count, 1);
     t.cells = crate::rows::put_row(area, s.cells, s.variant, starts, s.acts);
@@ -45,25 +49,26 @@ fn with_active(area: &mut [u16], starts: &[u16; ACTS], s: Search) -> Search {
 fn with_session<'a>(
     file: &'a [u8],
     relations: &'a [u8; PAIRS],
-    duration: &'a [u16; ACTS],
-    starts: &'a [u16; ACTS],
+    duration: &'a [u32; ACTS],
+    starts: &'a [u32; ACTS],
     s: Search,
-    area: &mut [u16],
+    area: &mut [u32],
 ) -> Search {
     let span = spanned(duration, starts);
     let length = makespan(span);
     let mut t = s;
-    t.tried = std::num::wrapping_add_u32(s.tried, span.ticks);
+    t.tried = std::num::wrapping_add_u32(s.tried, multiples(s.unit, span.ticks));
     if length < s.makespan {
         t.makespan = length;
     }
-    if active(relations, duration, starts, s.acts) && !is_active_below(file, s.variant, starts) {
+    let is_active = active(relations, duration, starts, s.acts, s.unit);
+    if is_active && !is_active_below(file, s.variant, starts) {
         return with_active(area, starts, t);
     }
     t
 }
 
-fn with_start(starts: [u16; ACTS], i: usize, tick: u16) -> [u16; ACTS] {
+fn with_start(starts: [u32; ACTS], i: usize, tick: u32) -> [u32; ACTS] {
     let mut next = starts;
     if i < ACTS {
         next[i] = tick;
@@ -71,16 +76,16 @@ fn with_start(starts: [u16; ACTS], i: usize, tick: u16) -> [u16; ACTS] {
     next
 }
 
-// The activities from i on, each at every tick where it fits those before it. Ticks rise, so sessions come by the start
-// of activity 0, then of activity 1, and so on.
+// The activities from i on, each at every multiple of the unit where it fits those before it. Ticks rise, so sessions
+// come by the start of activity 0, then of activity 1, and so on.
 pub fn place<'a>(
     file: &'a [u8],
     relations: &'a [u8; PAIRS],
-    duration: &'a [u16; ACTS],
-    starts: [u16; ACTS],
+    duration: &'a [u32; ACTS],
+    starts: [u32; ACTS],
     i: usize,
     s: Search,
-    area: &mut [u16],
+    area: &mut [u32],
 ) -> Search {
     if LIMIT <= s.tried {
         return s;
@@ -91,9 +96,11 @@ pub fn place<'a>(
     if duration[i] == 0 {
         return place(file, relations, duration, starts, i + 1, s, area);
     }
+    let ticks = multiples(s.unit, s.room);
     let mut t = s;
-    t.tried = s.tried + s.room as u32;
-    for tick in 0..s.room {
+    t.tried = std::num::wrapping_add_u32(s.tried, ticks);
+    let mut tick = 0u32;
+    for k in 0..ticks {
         if fits(relations, duration, &starts, s.acts, i, tick) {
             t = place(
                 file,
@@ -105,6 +112,7 @@ pub fn place<'a>(
                 area,
             );
         }
+        tick = std::num::wrapping_add_u32(tick, s.unit);
     }
     t
 }

@@ -2,7 +2,7 @@
 use plain::ACTS;
 
 // Past the end of the area nothing is stored.
-fn put(area: &mut [u16], at: usize, cell: u16) -> usize {
+fn put(area: &mut [u32], at: usize, cell: u32) -> usize {
     if area.len() <= at {
         return std::num::wrapping_add_usize(at, 1);
     }
@@ -10,7 +10,7 @@ fn put(area: &mut [u16], at: usize, cell: u16) -> usize {
     at + 1
 }
 
-fn put_start(area: &mut [u16], at: usize, starts: &[u16; ACTS], i: usize) -> usize {
+fn put_start(area: &mut [u32], at: usize, starts: &[u32; ACTS], i: usize) -> usize {
     if ACTS <= i {
         return at;
     }
@@ -19,10 +19,10 @@ fn put_start(area: &mut [u16], at: usize, starts: &[u16; ACTS], i: usize) -> usi
 
 // Returns the place after the row.
 pub fn put_row(
-    area: &mut [u16],
+    area: &mut [u32],
     from: usize,
-    variant: u16,
-    starts: &[u16; ACTS],
+    variant: u32,
+    starts: &[u32; ACTS],
     acts: usize,
 ) -> usize {
     let mut at = put(area, from, variant);

@@ -5,14 +5,11 @@ use crate::relation::AFTER;
 use crate::relation::APART;
 use crate::relation::BEFORE;
 use crate::relation::PAIRS;
+use crate::unit::multiples;
 use plain::ACTS;
 
-pub fn wide(n: u16) -> u32 {
-    n as u32
-}
-
-fn end(start: u16, duration: u16) -> u32 {
-    start as u32 + duration as u32
+fn end(start: u32, duration: u32) -> u32 {
+    std::num::wrapping_add_u32(start, duration)
 }
 
 // May a session have both of two activities, by their relation, starts and ends?
@@ -32,10 +29,10 @@ fn agree(relation: u8, start: u32, end: u32, other_start: u32, other_end: u32) -
 // May activity i start at a tick beside activity j as it stands?
 fn beside<'a>(
     relations: &'a [u8; PAIRS],
-    duration: &'a [u16; ACTS],
-    starts: &'a [u16; ACTS],
+    duration: &'a [u32; ACTS],
+    starts: &'a [u32; ACTS],
     i: usize,
-    tick: u16,
+    tick: u32,
     j: usize,
 ) -> bool {
     if ACTS <= i {
@@ -50,9 +47,9 @@ fn beside<'a>(
     let start = starts[j];
     agree(
         relations[i * ACTS + j],
-        wide(tick),
+        tick,
         end(tick, duration[i]),
-        wide(start),
+        start,
         end(start, duration[j]),
     )
 }
@@ -60,11 +57,11 @@ fn beside<'a>(
 // May activity i start at a tick, the others of the first n as they stand?
 pub fn fits<'a>(
     relations: &'a [u8; PAIRS],
-    duration: &'a [u16; ACTS],
-    starts: &'a [u16; ACTS],
+    duration: &'a [u32; ACTS],
+    starts: &'a [u32; ACTS],
     n: usize,
     i: usize,
-    tick: u16,
+    tick: u32,
 ) -> bool {
     for j in 0..n {
         if !beside(relations, duration, starts, i, tick, j) {
@@ -77,8 +74,8 @@ pub fn fits<'a>(
 // May each activity start where it does, the others as they stand?
 pub fn feasible<'a>(
     relations: &'a [u8; PAIRS],
-    duration: &'a [u16; ACTS],
-    starts: &'a [u16; ACTS],
+    duration: &'a [u32; ACTS],
+    starts: &'a [u32; ACTS],
     n: usize,
 ) -> bool {
     for i in 0..ACTS {
@@ -89,57 +86,60 @@ pub fn feasible<'a>(
     true
 }
 
-// May activity i start sooner, the others unchanged?
+// May activity i start sooner, the others unchanged? If so it may at a multiple of the unit.
 fn movable<'a>(
     relations: &'a [u8; PAIRS],
-    duration: &'a [u16; ACTS],
-    starts: &'a [u16; ACTS],
+    duration: &'a [u32; ACTS],
+    starts: &'a [u32; ACTS],
     n: usize,
     i: usize,
-    start: u16,
+    start: u32,
+    unit: u32,
 ) -> bool {
     if start == ABSENT {
         return false;
     }
-    for tick in 0..start {
+    let mut tick = 0u32;
+    for k in 0..multiples(unit, start) {
         if fits(relations, duration, starts, n, i, tick) {
             return true;
         }
+        tick = std::num::wrapping_add_u32(tick, unit);
     }
     false
 }
 
 pub fn active<'a>(
     relations: &'a [u8; PAIRS],
-    duration: &'a [u16; ACTS],
-    starts: &'a [u16; ACTS],
+    duration: &'a [u32; ACTS],
+    starts: &'a [u32; ACTS],
     n: usize,
+    unit: u32,
 ) -> bool {
     for i in 0..ACTS {
-        if movable(relations, duration, starts, n, i, starts[i]) {
+        if movable(relations, duration, starts, n, i, starts[i], unit) {
             return false;
         }
     }
     true
 }
 
-// The earliest start, the latest end, and the sum of the starts, which is the most ticks that `active` tries.
+// The earliest start, the latest end, and the sum of the starts, which in units is the most ticks that `active` tries.
 pub struct Span {
     pub first: u32,
     pub last: u32,
     pub ticks: u32,
 }
 
-fn widened(s: Span, start: u16, duration: u16) -> Span {
+fn widened(s: Span, start: u32, duration: u32) -> Span {
     if start == ABSENT {
         return s;
     }
     let mut r = s;
-    let first = wide(start);
     let last = end(start, duration);
-    r.ticks = std::num::wrapping_add_u32(s.ticks, first);
-    if first < s.first {
-        r.first = first;
+    r.ticks = std::num::wrapping_add_u32(s.ticks, start);
+    if start < s.first {
+        r.first = start;
     }
     if s.last < last {
         r.last = last;
@@ -147,9 +147,9 @@ fn widened(s: Span, start: u16, duration: u16) -> Span {
     r
 }
 
-pub fn spanned<'a>(duration: &'a [u16; ACTS], starts: &'a [u16; ACTS]) -> Span {
+pub fn spanned<'a>(duration: &'a [u32; ACTS], starts: &'a [u32; ACTS]) -> Span {
     let mut s = Span {
-        first: wide(ABSENT),
+        first: ABSENT,
         last: 0,
         ticks: 0,
     };

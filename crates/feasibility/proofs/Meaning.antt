@@ -24,7 +24,7 @@ use Rattle.variant.specs.Project.{projectOf}
 use Rattle.timetable.specs.Mark.{mark, places}
 use Rattle.variant.specs.Timetable.{isMarked, isSession}
 use Rattle.variant.proofs.Instance.{resourceOf, acts-between, feasible-words, has-of, has-below, has-member}
-use Rattle.feasibility.specs.Model.{markRight, marksRight, endsBy, apart, agree, placeRight, placesRight}
+use Rattle.feasibility.specs.Model.{markRight, marksRight, endsBy, apart, agree, placeRight, placesRight, isRight}
 use Rattle.variant.specs.declared.Variant.{Variant}
 use Rattle.variant.specs.Tables.{IsVariant}
 
@@ -189,7 +189,6 @@ module _ (p : Plan) (w : Term) (x : Variant) (starts : List ℕ) (valid : isPlan
         let meant = feasible-words p w S valid in
         same-bool placed (feasible Q S) (λ e. meant .1 (words e)) (λ e. tests (meant .0 e))
 
-    pub session-same : (marksRight present starts && placesRight acts resource duration present preds starts)
-        ≡ isSession p w starts
+    pub session-same : isRight x starts ≡ isSession p w starts
     unfolding isSession
     session-same = ap₂ _&&_ marks-same places-same

@@ -4,7 +4,6 @@ use mathlib.Core.Bool.{Bool, true, false, not, Bool·beq, _&&_, _||_}
 use mathlib.Core.Path.{_≡_, refl, ap, _∙_}
 use native.Mathlib.Nat.{not-suc-le-zero, le-antisymm}
 use native.Mathlib.Numerals.{add-one}
-use lib.Dec.{leb}
 use Rattle.base.specs.Below.{everyBelow, _implies_}
 use Rattle.base.proofs.Bools.{by-bool, true-not-false, both}
 use Rattle.base.proofs.Below.{every-at, every-of}
@@ -31,9 +30,6 @@ not-marked false there h = rw h
 pub is-marked : (marked there : Bool) → there ≡ false → marked ≡ Bool·beq marked (not there)
 is-marked true there h = rw h
 is-marked false there h = rw h
-
-pub same-order : {a b c x y z : ℕ} → a ≡ x → b ≡ y → c ≡ z → leb (a + b) c ≡ leb (x + y) z
-same-order p q r = cc
 
 pub either-first : (two x y : Bool) → x ≡ true → (two implies (x || y)) ≡ true
 either-first true x y h = rw h

@@ -7,6 +7,7 @@ use lib.ListN.{getD}
 use Rattle.sets.specs.Sets.{has}
 use Rattle.base.specs.Below.{everyBelow, _implies_}
 use Rattle.timetable.specs.Mark.{mark, places}
+use Rattle.variant.specs.declared.Variant.{Variant}
 
 abbrev pub markRight : Bool → ℕ → Bool
 markRight there start = Bool·beq (eqb start mark) (not there)
@@ -37,3 +38,9 @@ placeRight acts resource duration present before starts j =
 unfoldable pub placesRight : ℕ → List ℕ → List ℕ → ℕ → List ℕ → List ℕ → Bool
 placesRight acts resource duration present preds starts =
     everyBelow acts λ j. placeRight acts resource duration present (getD preds j 0) starts j
+
+-- The whole test, by the tables of a variant.
+abbrev pub isRight : Variant → List ℕ → Bool
+isRight x starts =
+    marksRight (x .present) starts
+    && placesRight (x .acts) (x .resource) (x .duration) (x .present) (x .preds) starts

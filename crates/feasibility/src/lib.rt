@@ -1,7 +1,8 @@
 // Is a timetable a feasible session of a variant?
 ghost use mathlib.Core.Path.{_≡_};
-ghost use Prim.Native.Nat.{_<_, _≤_};
-ghost use Rattle.plan.specs.Limits.{mostActs, cellValues};
+ghost use Prim.Native.Nat.{_+_, _<_, _≤_};
+ghost use lib.Dec.{leb};
+ghost use Rattle.plan.specs.Limits.{mostActs};
 ghost use mathlib.Core.Bool.{true};
 ghost use Rattle.plan.specs.Plan.{Plan, isPlan};
 ghost use Rattle.term.specs.Term.{Term};
@@ -14,7 +15,7 @@ use timetable::Timetable;
 use variant::Variant;
 
 // The mark at an absent activity, and at no other.
-fn mark_right(there: bool, start: u16) -> bool
+fn mark_right(there: bool, start: u32) -> bool
     ensures { λ r. ⌜ r ≡ markRight there start ⌝ }
 {
     if there {
@@ -23,7 +24,7 @@ fn mark_right(there: bool, start: u16) -> bool
     start == Timetable::MARK
 }
 
-fn marks_right(present: u32, starts: &[u16; MOST_ACTS]) -> bool
+fn marks_right(present: u32, starts: &[u32; MOST_ACTS]) -> bool
     ensures { λ r. ⌜ r ≡ marksRight present (now (starts .entry)) ⌝ }
 {
     let mut i: usize = 0;
@@ -36,25 +37,26 @@ fn marks_right(present: u32, starts: &[u16; MOST_ACTS]) -> bool
     true
 }
 
-fn wide(x: u16) -> u32
-    ensures { λ r. ⌜ (r ≡ x) × (r < cellValues) ⌝ }
+// The end is a whole number, which may need more bits than a start.
+fn is_over(start: u32, duration: u16, tick: u32) -> bool
+    ensures { λ r. ⌜ r ≡ leb (start + duration) tick ⌝ }
 {
-    x as u32
+    start as u64 + duration as u64 <= tick as u64
 }
 
 // Activity i ends by the start of j.
-fn ends_by(duration: &[u16; MOST_ACTS], starts: &[u16; MOST_ACTS], i: usize, j: usize) -> bool
+fn ends_by(duration: &[u16; MOST_ACTS], starts: &[u32; MOST_ACTS], i: usize, j: usize) -> bool
     requires { ⌜ (i < mostActs) × (j < mostActs) ⌝ }
     ensures { λ r. ⌜ r ≡ endsBy (now (duration .entry)) (now (starts .entry)) i j ⌝ }
 {
-    wide(starts[i]) + wide(duration[i]) <= wide(starts[j])
+    is_over(starts[i], duration[i], starts[j])
 }
 
 // Two on one resource do not overlap.
 fn apart_at(
     resource: &[u16; MOST_ACTS],
     duration: &[u16; MOST_ACTS],
-    starts: &[u16; MOST_ACTS],
+    starts: &[u32; MOST_ACTS],
     i: usize,
     j: usize,
 ) -> bool
@@ -80,7 +82,7 @@ fn agree_at(
     duration: &[u16; MOST_ACTS],
     present: u32,
     before: u32,
-    starts: &[u16; MOST_ACTS],
+    starts: &[u32; MOST_ACTS],
     i: usize,
     j: usize,
 ) -> bool
@@ -103,7 +105,7 @@ fn place_right(
     duration: &[u16; MOST_ACTS],
     present: u32,
     before: u32,
-    starts: &[u16; MOST_ACTS],
+    starts: &[u32; MOST_ACTS],
     j: usize,
 ) -> bool
     requires { ⌜ (acts ≤ mostActs) × (j < mostActs) ⌝ }
@@ -130,7 +132,7 @@ fn places_right(
     duration: &[u16; MOST_ACTS],
     present: u32,
     preds: &[u32; MOST_ACTS],
-    starts: &[u16; MOST_ACTS],
+    starts: &[u32; MOST_ACTS],
 ) -> bool
     requires { ⌜ acts ≤ mostActs ⌝ }
     ensures { λ r.
@@ -149,7 +151,7 @@ fn places_right(
 }
 
 // Yes exactly if the timetable is a session of the variant, whatever its numbers are.
-pub fn is_session(x: Variant, starts: &[u16; MOST_ACTS]) -> bool
+pub fn is_session(x: Variant, starts: &[u32; MOST_ACTS]) -> bool
     requires { ⌜ x .acts ≤ mostActs ⌝ }
     ensures { λ r.
         ⌜ ((p : Plan) (w : Term) → isPlan p ≡ true → IsVariant p w x → r ≡ isSession p w (now (starts .entry))) ⌝ }

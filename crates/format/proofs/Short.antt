@@ -68,14 +68,21 @@ unfolding filled
 filled-longer [] vs ws h = omega arith
 filled-longer (b ∷ form) vs ws h = longer (kind b) form (filled-longer form) vs ws h
 
+-- The bytes of the longest line of an activity and of a node.
+abbrev actWidth : ℕ
+actWidth = 13
+
+abbrev nodeWidth : ℕ
+nodeWidth = 10
+
 -- The longest line of each form.
 record Widths : Type 0 where
   edition : length (filled editionForm (1 ∷ [])) ≡ 7
   resources : length (filled resourcesForm (mostResources ∷ [])) ≡ 7
   acts : length (filled actsForm (mostActs ∷ [])) ≡ 8
-  act : length (filled actForm ((mostResources - 1) ∷ longestDuration ∷ [])) ≡ 12
+  act : length (filled actForm ((mostResources - 1) ∷ longestDuration ∷ [])) ≡ actWidth
   nodes : length (filled nodesForm (mostNodes ∷ [])) ≡ 9
-  node : (b : ℕ) → length (filled nodeForm (b ∷ mostChildren ∷ [])) ≡ 10
+  node : (b : ℕ) → length (filled nodeForm (b ∷ mostChildren ∷ [])) ≡ nodeWidth
 
 widths : Widths
 unfolding filled numeral
@@ -85,7 +92,7 @@ number-short : (form : List ℕ) (high n : ℕ) → between 1 high n ≡ true
     → length (filled form (n ∷ [])) ≤ length (filled form (high ∷ []))
 number-short form high n e = filled-longer form (n ∷ []) (high ∷ []) (between-facts 1 high n e .1, tt)
 
-act-short : (r : ℕ) → r ≤ mostResources → (a : Activity) → isActivity r a ≡ true → length (actLine a) ≤ 12
+act-short : (r : ℕ) → r ≤ mostResources → (a : Activity) → isActivity r a ≡ true → length (actLine a) ≤ actWidth
 act-short r h a e =
     omega (
       arith,
@@ -94,7 +101,7 @@ act-short r h a e =
           (omega (arith, resource-below r a e), (duration-between r a e .1, tt)),
     )
 
-node-short : (n : ℕ) → n ≤ mostActs → (m : Node) → isNode n m ≡ true → length (nodeLine m) ≤ 10
+node-short : (n : ℕ) → n ≤ mostActs → (m : Node) → isNode n m ≡ true → length (nodeLine m) ≤ nodeWidth
 node-short n h m e =
     omega (
       arith,
@@ -129,11 +136,11 @@ module _ (p : Plan) (ok : isPlan p ≡ true) where
         widths,
         number-short resourcesForm mostResources (p .resources) (sound .resources),
         number-short actsForm mostActs (length (p .activities)) (sound .acts),
-        lines-short act-joined (isActivity (p .resources)) 12 (act-short (p .resources) resources) (p .activities)
+        lines-short act-joined (isActivity (p .resources)) actWidth (act-short (p .resources) resources) (p .activities)
             (sound .activities),
         number-short nodesForm mostNodes (length (p .nodes)) (sound .nodeCount),
         between-facts 1 mostNodes (length (p .nodes)) (sound .nodeCount),
-        lines-short node-joined (isNode (length (p .activities))) 10 (node-short (length (p .activities)) acts)
+        lines-short node-joined (isNode (length (p .activities))) nodeWidth (node-short (length (p .activities)) acts)
             (p .nodes) (sound .nodes),
       ))
 

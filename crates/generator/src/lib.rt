@@ -1,4 +1,5 @@
-// Small valid plan files, each made of a seed: one to six activities, short durations, and a term of few variants.
+// Small valid plan files, each made of a seed: one to six activities, durations that are short or those of soak tests,
+// and a term of few variants.
 ghost use Prim.Native.Nat.{_≤_};
 ghost use Rattle.generator.specs.Text.{Counts};
 
@@ -37,12 +38,21 @@ fn duration(state: u64, first: u64, acts: u8) -> u8 {
     below(state, most) + 1
 }
 
+// Every other plan of four activities or more has soak tests, of 10000 ticks for a duration of 1, else of 20000.
+fn soaked(duration: u8, seed: u64, acts: u8) -> u32 {
+    if (acts < 4) | (seed % 2 == 1) {
+        return duration as u32;
+    }
+    if duration == 1 { 10000 } else { 20000 }
+}
+
 fn activities(out: &mut [u8], start: usize, seed: u64, acts: u8, res: u8) -> usize {
     let mut at = start;
     let mut state = seed;
     for i in 0..acts {
         let resource = below(state, res);
-        at = text::activity(out, at, resource, duration(state >> 6, seed >> 12, acts));
+        let short = duration(state >> 6, seed >> 12, acts);
+        at = text::activity(out, at, resource, soaked(short, seed, acts));
         state = drawn(state);
     }
     at
@@ -51,7 +61,7 @@ fn activities(out: &mut [u8], start: usize, seed: u64, acts: u8, res: u8) -> usi
 fn nodes(out: &mut [u8], start: usize, t: Term) -> usize
     ensures { λ r. ⌜ Counts r (now (out .exit)) ⌝ }
 {
-    let mut at = text::line(out, start, b"nodes=", t.nodes);
+    let mut at = text::line(out, start, b"nodes=", t.nodes as u32);
     for i in 0..t.nodes {
         at = text::node(out, at, tree::letter(t, i), tree::number(t, i));
     }
@@ -68,8 +78,8 @@ pub fn generate(seed: u64, out: &mut [u8]) -> usize
     let res = resources(first);
     let acts = below(second, 6) + 1;
     let mut at = text::line(out, 0, b"plan=", 1);
-    at = text::line(out, at, b"res=", res);
-    at = text::line(out, at, b"acts=", acts);
+    at = text::line(out, at, b"res=", res as u32);
+    at = text::line(out, at, b"acts=", acts as u32);
     at = activities(out, at, third, acts, res);
     let apart = drawn(third / 2 + 1);
     nodes(out, at, tree::grown(apart, acts))

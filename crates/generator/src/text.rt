@@ -26,17 +26,25 @@ fn word(out: &mut [u8], start: usize, bytes: &[u8]) -> usize {
     at
 }
 
-// A number below 100.
-fn number(out: &mut [u8], start: usize, n: u8) -> usize {
-    if n < 10 {
-        return put(out, start, n + b'0');
+// The last digit of a number, of 0 none.
+fn last_digit(out: &mut [u8], at: usize, n: u32) -> usize {
+    if n == 0 {
+        return at;
     }
-    let at = put(out, start, n / 10 % 10 + b'0');
-    put(out, at, n % 10 + b'0')
+    put(out, at, (n % 10) as u8 + b'0')
+}
+
+// A number below 100000.
+fn number(out: &mut [u8], start: usize, n: u32) -> usize {
+    let mut at = last_digit(out, start, n / 10000);
+    at = last_digit(out, at, n / 1000);
+    at = last_digit(out, at, n / 100);
+    at = last_digit(out, at, n / 10);
+    put(out, at, (n % 10) as u8 + b'0')
 }
 
 // A key and its value.
-pub fn line(out: &mut [u8], start: usize, key: &[u8], n: u8) -> usize
+pub fn line(out: &mut [u8], start: usize, key: &[u8], n: u32) -> usize
     ensures { λ r. ⌜ Counts r (now (out .exit)) ⌝ }
 {
     let at = word(out, start, key);
@@ -44,9 +52,9 @@ pub fn line(out: &mut [u8], start: usize, key: &[u8], n: u8) -> usize
     put(out, end, b'\n')
 }
 
-pub fn activity(out: &mut [u8], start: usize, resource: u8, duration: u8) -> usize {
+pub fn activity(out: &mut [u8], start: usize, resource: u8, duration: u32) -> usize {
     let at = word(out, start, b"act=");
-    let comma = number(out, at, resource);
+    let comma = number(out, at, resource as u32);
     line(out, comma, b",", duration)
 }
 
@@ -55,5 +63,5 @@ pub fn node(out: &mut [u8], start: usize, letter: u8, n: u8) -> usize
 {
     let at = word(out, start, b"node=");
     let comma = put(out, at, letter);
-    line(out, comma, b",", n)
+    line(out, comma, b",", n as u32)
 }

@@ -1,5 +1,5 @@
 -- Along the children of a group: how many variants they have, where they end, and which of them a number falls into.
-use Prim.Native.Nat.{ℕ, zero, suc, _-_, _*_, _^_, _≤_, _<_, min}
+use Prim.Native.Nat.{ℕ, zero, suc, _-_, _*_, _≤_, _<_, min}
 use mathlib.Core.Bool.{Bool, true, false}
 use mathlib.Core.List.{List}
 use mathlib.Core.Path.{_≡_, refl, sym, ap, ap₂, _∙_, subst}
@@ -8,6 +8,7 @@ use native.Mathlib.Omega.{arith}
 use lib.Dec.{lit<}
 use lib.ListN.{length, getD, length-append}
 use borrow.Author.Tests.{lt-ltb, le-ltb}
+use Rattle.plan.specs.Limits.{wordValues}
 use Rattle.plan.specs.Plan.{Node}
 use Rattle.term.specs.Term.{Term, Forest, nil, cons, size, nodes, nodesOfAll, firsts, others}
 use Rattle.term.specs.Model.{count, total}
@@ -57,7 +58,7 @@ combine-same apart a x b y p q =
     ∙ sym (combine-stops apart x y)
 
 -- The product of two numbers that have stopped fits.
-pub small-product : (a b : ℕ) → a ≤ stop → b ≤ stop → a * b < 2 ^ 32
+pub small-product : (a b : ℕ) → a ≤ stop → b ≤ stop → a * b < wordValues
 small-product a b p q = lt-of-le-of-lt (mul-le-mul p q) (lit< tt)
 
 -- What the walk has: so many children are left, and what they add makes up the whole.

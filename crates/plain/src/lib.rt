@@ -23,7 +23,7 @@ pub const NODES: usize = 64;
 
 const VARIANTS: u32 = 4096;
 
-const LONGEST: u16 = 2000;
+const LONGEST: u32 = 20000;
 
 // The plan of a file that is not refused.
 pub fn read(file: &[u8]) -> Plan {

@@ -5,15 +5,15 @@ pub struct Line {
     pub ok: bool,
     pub at: usize,
     pub letter: u8,
-    pub left: u16,
-    pub right: u16,
+    pub left: u32,
+    pub right: u32,
 }
 
 // The digits at a place, up to the first byte that is none, six at most.
 struct Digits {
     ended: bool,
     count: usize,
-    value: u16,
+    value: u32,
 }
 
 // No line has byte 0.
@@ -43,7 +43,7 @@ fn start(file: &[u8], at: usize, key: &[u8]) -> Line {
     l
 }
 
-// A value of 6000 or more is out of every range, and stays so.
+// No digit after the sixth is read, and before that one a value is below 100000.
 fn with_digit(d: Digits, b: u8) -> Digits {
     let mut e = d;
     if d.ended | (b < b'0') | (b'9' < b) {
@@ -51,11 +51,7 @@ fn with_digit(d: Digits, b: u8) -> Digits {
         return e;
     }
     e.count = std::num::wrapping_add_usize(d.count, 1);
-    if d.value < 6000 {
-        e.value = d.value * 10 + (b % 16) as u16;
-    } else {
-        e.value = 60000;
-    }
+    e.value = d.value % 100000 * 10 + (b % 16) as u32;
     e
 }
 

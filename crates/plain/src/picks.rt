@@ -7,7 +7,7 @@ use crate::tables::Plan;
 
 pub struct Picks {
     pub turned: bool,
-    pub digit: [u16; NODES],
+    pub digit: [u32; NODES],
 }
 
 // The picks of variant 0.
@@ -23,8 +23,8 @@ pub fn first() -> Picks {
 pub struct Variant {
     pub remains: [bool; NODES],
     pub node: [usize; ACTS],
-    pub duration: [u16; ACTS],
-    pub room: u16,
+    pub duration: [u32; ACTS],
+    pub room: u32,
     pub twice: bool,
 }
 
@@ -42,7 +42,7 @@ fn remains(v: Variant, p: Plan, picks: Picks, node: usize) -> bool {
     v.remains[parent] & ((p.letter[parent] != b'x') | (p.rank[node] == picks.digit[parent]))
 }
 
-fn with_activity(v: Variant, node: usize, i: usize, duration: u16) -> Variant {
+fn with_activity(v: Variant, node: usize, i: usize, duration: u32) -> Variant {
     if ACTS <= i {
         return v;
     }
@@ -50,11 +50,11 @@ fn with_activity(v: Variant, node: usize, i: usize, duration: u16) -> Variant {
     w.twice = v.twice | (v.node[i] != NONE);
     w.node[i] = node;
     w.duration[i] = duration;
-    w.room = std::num::wrapping_add_u16(v.room, duration);
+    w.room = std::num::wrapping_add_u32(v.room, duration);
     w
 }
 
-fn wide(n: u16) -> usize {
+fn wide(n: u32) -> usize {
     n as usize
 }
 
@@ -93,12 +93,12 @@ pub fn picked(p: Plan, picks: Picks) -> Variant {
 }
 
 // The next child of an x, and after the last the first.
-fn with_turn(picks: Picks, node: usize, children: u16) -> Picks {
+fn with_turn(picks: Picks, node: usize, children: u32) -> Picks {
     if NODES <= node {
         return picks;
     }
     let mut q = picks;
-    let next = std::num::wrapping_add_u16(picks.digit[node], 1);
+    let next = std::num::wrapping_add_u32(picks.digit[node], 1);
     q.turned = next < children;
     q.digit[node] = if q.turned { next } else { 0 };
     q

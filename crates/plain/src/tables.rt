@@ -10,15 +10,15 @@ pub const NONE: usize = NODES;
 pub struct Plan {
     ok: bool,
     pub acts: usize,
-    pub resource: [u16; ACTS],
-    pub duration: [u16; ACTS],
+    pub resource: [u32; ACTS],
+    pub duration: [u32; ACTS],
     pub nodes: usize,
     pub letter: [u8; NODES],
-    pub number: [u16; NODES],
+    pub number: [u32; NODES],
     // a node's parent, which of its parent's children it is, and how many children it has so far
     pub parent: [usize; NODES],
-    pub rank: [u16; NODES],
-    given: [u16; NODES],
+    pub rank: [u32; NODES],
+    given: [u32; NODES],
 }
 
 fn empty() -> Plan {
@@ -42,7 +42,7 @@ fn refused(p: Plan) -> Plan {
     q
 }
 
-fn with_act(p: Plan, resource: u16, duration: u16) -> Plan {
+fn with_act(p: Plan, resource: u32, duration: u32) -> Plan {
     let at = p.acts;
     if ACTS <= at {
         return refused(p);
@@ -77,11 +77,11 @@ fn with_parent(p: Plan, node: usize, parent: usize) -> Plan {
     let mut q = p;
     q.parent[node] = parent;
     q.rank[node] = rank;
-    q.given[parent] = std::num::wrapping_add_u16(rank, 1);
+    q.given[parent] = std::num::wrapping_add_u32(rank, 1);
     q
 }
 
-fn with_node(p: Plan, letter: u8, number: u16) -> Plan {
+fn with_node(p: Plan, letter: u8, number: u32) -> Plan {
     let at = p.nodes;
     if NODES <= at {
         return refused(p);
@@ -93,7 +93,7 @@ fn with_node(p: Plan, letter: u8, number: u16) -> Plan {
     q
 }
 
-fn with_acts(file: &[u8], p: Plan, from: usize, acts: u16) -> Plan {
+fn with_acts(file: &[u8], p: Plan, from: usize, acts: u32) -> Plan {
     let mut q = p;
     let mut at = from;
     for i in 0..acts {
@@ -104,7 +104,7 @@ fn with_acts(file: &[u8], p: Plan, from: usize, acts: u16) -> Plan {
     q
 }
 
-fn with_nodes(file: &[u8], p: Plan, from: usize, nodes: u16) -> Plan {
+fn with_nodes(file: &[u8], p: Plan, from: usize, nodes: u32) -> Plan {
     let mut q = p;
     let mut at = from;
     for i in 0..nodes {

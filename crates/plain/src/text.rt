@@ -4,7 +4,7 @@ use crate::LONGEST;
 use crate::NODES;
 use crate::line::Line;
 
-const BYTES: usize = 959;
+const BYTES: usize = 983;
 
 const RESOURCES: usize = 16;
 
@@ -17,10 +17,10 @@ pub struct Text {
     pub number: u64,
     pub figure: u64,
     at: usize,
-    count: u16,
-    resources: u16,
-    pub acts: u16,
-    pub nodes: u16,
+    count: u32,
+    resources: u32,
+    pub acts: u32,
+    pub nodes: u32,
     pub acts_at: usize,
     pub nodes_at: usize,
 }
@@ -89,7 +89,7 @@ fn with_node(file: &[u8], t: Text, line: u64) -> Text {
     let l = crate::line::node(file, t.at);
     let is_group = l.letter != b'a';
     let fits = if is_group {
-        (0 < l.right) & (l.right < NODES as u16)
+        (0 < l.right) & (l.right < NODES as u32)
     } else {
         l.right < t.acts
     };

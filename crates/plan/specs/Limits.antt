@@ -16,7 +16,7 @@ between low high n = leb low n && leb n high
 
 -- No accepted file is longer.
 abbrev pub longest : ℕ
-longest = 959
+longest = 983
 
 -- A value has no more decimal digits than this.
 abbrev pub mostDigits : ℕ
@@ -38,21 +38,18 @@ mostActs = 24
 
 -- In ticks.
 abbrev pub longestDuration : ℕ
-longestDuration = 2000
+longestDuration = 20000
 
 -- No active session ends later.
 abbrev pub latestPossible : ℕ
 latestPossible = mostActs * longestDuration
 
--- A start and a cell of LIST have so many bits and are numbers below this; a word is a number below that.
-abbrev pub cellBits : ℕ
-cellBits = 16
-
-abbrev pub cellValues : ℕ
-cellValues = 2 ^ cellBits
+-- A start, a cell of LIST and a cap are words: they have so many bits and are numbers below this.
+abbrev pub wordBits : ℕ
+wordBits = 32
 
 abbrev pub wordValues : ℕ
-wordValues = 2 ^ 32
+wordValues = 2 ^ wordBits
 
 abbrev pub mostNodes : ℕ
 mostNodes = 64

@@ -9,17 +9,15 @@ pub const MOST_RESOURCES: u16 = 16;
 
 pub const MOST_ACTS: usize = 24;
 
-pub const LONGEST_DURATION: u16 = 2000;
+pub const LONGEST_DURATION: u16 = 20000;
 
 pub const MOST_NODES: usize = 64;
 
 pub const MOST_CHILDREN: u8 = 63;
 
-pub const LONGEST: usize = 959;
+pub const LONGEST: usize = 983;
 
 pub const MOST_VARIANTS: u32 = 4096;
-
-pub const CELL_BITS: u32 = 16;
 
 // The form of each kind of line: `#` stands for a value and `@` for a node's letter.
 pub const EDITION_FORM: [u8; 7] = *b"plan=#\n";

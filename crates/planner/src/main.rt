@@ -11,7 +11,7 @@ fn put_written(file: &[u8], variant: u32) -> bool {
 }
 
 fn put_listed(file: &[u8], cap: u32) -> bool {
-    let mut area = [0u16; printer::CELLS];
+    let mut area = [0u32; printer::CELLS];
     printer::put_listed(file, cap, &mut area)
 }
 

@@ -103,7 +103,7 @@ fn start_word(timetable: Timetable, place: usize) -> Placed {
         Placing::Twice => complain(place, b" gives an activity a second start"),
         Placing::NotAStart => complain(
             place,
-            b" has to be an activity from 0 to 23, a comma and a start from 0 to 65534",
+            b" has to be an activity from 0 to 23, a comma and a start from 0 to 4294967294",
         ),
     }
     placed

@@ -63,7 +63,7 @@ pub fn put_counted(file: &[u8], cap: u32) -> bool {
     }
 }
 
-pub fn put_listed(file: &[u8], cap: u32, area: &mut [u16]) -> bool {
+pub fn put_listed(file: &[u8], cap: u32, area: &mut [u32]) -> bool {
     match calls::list(file, cap, area) {
         ListAnswer::Listed(rows) => match read::read(file) {
             ReadAnswer::Read {

@@ -5,7 +5,7 @@ use console::put;
 use timetable::Timetable;
 
 // A cell of a row, after a comma where it is not the first.
-fn put_cell(i: usize, cell: u16) -> bool {
+fn put_cell(i: usize, cell: u32) -> bool {
     if 0 < i && !put(b",") {
         return false;
     }
@@ -15,7 +15,7 @@ fn put_cell(i: usize, cell: u16) -> bool {
     console::put_number(cell as u64)
 }
 
-fn put_cells(row: &[u16]) -> bool {
+fn put_cells(row: &[u32]) -> bool {
     let mut i = 0;
     while i < row.len() {
         if !put_cell(i, row[i]) {
@@ -27,12 +27,12 @@ fn put_cells(row: &[u16]) -> bool {
 }
 
 // `row=`, the variant and the start of each activity.
-fn put_row(row: &[u16]) -> bool {
+fn put_row(row: &[u32]) -> bool {
     put(b"row=") && put_cells(row) && put(b"\n")
 }
 
 // Rows that follow one another.
-pub fn put_rows(rows: usize, width: usize, cells: &[u16]) -> bool
+pub fn put_rows(rows: usize, width: usize, cells: &[u32]) -> bool
     requires { ⌜ rows * width ≤ length (now cells) ⌝ }
 {
     let mut row = 0;

@@ -5,7 +5,7 @@ use timetable::Timetable;
 fn put_length() -> bool {
     put(b"case=empty_file call=read\n")
         && printer::put_read(b"")
-        && put(b"case=file_of_960_bytes call=read\n")
+        && put(b"case=file_of_984_bytes call=read\n")
         && printer::put_read(&[b'a'; console::FILE])
 }
 
@@ -19,7 +19,7 @@ fn put_form() -> bool {
 }
 
 fn put_range() -> bool {
-    put(b"case=duration_2001 call=read\n") && printer::put_read(&samples::duration_2001())
+    put(b"case=duration_20001 call=read\n") && printer::put_read(&samples::duration_20001())
 }
 
 fn put_group() -> bool {
@@ -46,7 +46,7 @@ fn put_variant() -> bool {
 
 // The dot test has three active sessions.
 fn put_cap() -> bool {
-    let mut area = [0u16; 18];
+    let mut area = [0u32; 18];
     put(b"case=cap_2 call=count\n")
         && printer::put_counted(&samples::dot_test(), 2)
         && put(b"case=cap_2 call=list\n")
@@ -62,7 +62,7 @@ fn put_bytes() -> bool {
 }
 
 fn put_cells() -> bool {
-    let mut area = [0u16; printer::CELLS];
+    let mut area = [0u32; printer::CELLS];
     put(b"case=eight_in_parallel call=list\n")
         && printer::put_listed(&samples::eight_in_parallel(), 1000000, &mut area)
 }

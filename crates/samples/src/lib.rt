@@ -36,6 +36,14 @@ pub fn three_shortest() -> [u8; 97] {
         nodes=5\nnode=p,2\nnode=a,1\nnode=s,2\nnode=a,2\nnode=a,0\n"
 }
 
+// Soak tests, two sequences side by side and one more after both: four sessions, and the third is the shortest, of
+// makespan 88000.
+pub fn soak() -> [u8; 191] {
+    *b"plan=1\nres=2\nacts=6\n\
+        act=0,16000\nact=0,12000\nact=0,20000\nact=1,20000\nact=0,20000\nact=1,20000\n\
+        nodes=10\nnode=s,2\nnode=p,2\nnode=s,2\nnode=a,0\nnode=a,1\nnode=s,3\nnode=a,2\nnode=a,3\nnode=a,4\nnode=a,5\n"
+}
+
 // x over activity 0 twice.
 pub fn twice_under_x() -> [u8; 63] {
     *b"plan=1\nres=1\nacts=1\n\
@@ -106,10 +114,24 @@ pub fn leading_zero() -> [u8; 46] {
         nodes=1\nnode=a,0\n"
 }
 
-// A duration out of range, on line 4.
+// A duration of 2001, within range.
 pub fn duration_2001() -> [u8; 48] {
     *b"plan=1\nres=1\nacts=1\n\
         act=0,2001\n\
+        nodes=1\nnode=a,0\n"
+}
+
+// The longest duration.
+pub fn duration_20000() -> [u8; 49] {
+    *b"plan=1\nres=1\nacts=1\n\
+        act=0,20000\n\
+        nodes=1\nnode=a,0\n"
+}
+
+// A duration out of range, on line 4.
+pub fn duration_20001() -> [u8; 49] {
+    *b"plan=1\nres=1\nacts=1\n\
+        act=0,20001\n\
         nodes=1\nnode=a,0\n"
 }
 

@@ -14,7 +14,7 @@ use lib.Seq.{getD-set-same, getD-set-other, set-out, set-comm}
 use borrow.Author.Tests.{eq-eqb, ne-eqb, eqb-true, lt-ltb, not-true}
 use Rattle.plan.specs.Limits.{longestDuration, mostResources, packing}
 use Rattle.base.proofs.Bools.{by-bool, true-not-false, both, and-left, and-right, cond-true, cond-false}
-use Rattle.base.proofs.Below.{cond-le, max-least, max-eq}
+use Rattle.base.proofs.Below.{max-chosen, max-eq}
 use Rattle.base.proofs.Lists.{gather-none, gather-one}
 use Rattle.sets.proofs.Laws.{has-none, has-without, meet-not, meet-comm, meet-none, meet-of, size-without}
 use Rattle.sets.specs.Sets.{most, has, meet, size}
@@ -176,9 +176,9 @@ module _ (p : Problem) (s : State) (bounded : Bounded p s) (i : ℕ) (below : i 
   ready-early : ready p s i ≤ longestDuration * most - longestDuration * size (s .left) most
   unfolding ready
   ready-early =
-      max-least most (λ j. cond (has (p .preds i) j) (getD (s .ends) j 0) 0)
+      max-chosen most (has (p .preds i)) (λ j. getD (s .ends) j 0)
       (longestDuration * most - longestDuration * size (s .left) most)
-      (λ j l. omega (arith, cond-le (has (p .preds i) j) (getD (s .ends) j 0), bounded .early j))
+      (λ j l. omega (arith, bounded .early j))
 
   pub finish-bounded : finish p s i + longestDuration * size (s .left - 2 ^ i) most ≤ longestDuration * most
   unfolding finish earliest

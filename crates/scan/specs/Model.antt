@@ -5,7 +5,7 @@ use mathlib.Core.Bool.{Bool, true, false, not, cond, _&&_}
 use mathlib.Core.List.{List, [], _∷_, map}
 use lib.Dec.{ltb, eqb}
 use lib.ListN.{getD, set, replicate}
-use Rattle.plan.specs.Limits.{mostResources, packing}
+use Rattle.plan.specs.Limits.{mostResources, packing, wordValues}
 use Rattle.base.specs.Below.{maxBelow}
 use Rattle.base.specs.Lists.{gather}
 use Rattle.sets.specs.Sets.{most, has, meet, size, width}
@@ -35,9 +35,9 @@ pub record State : Type 0 where
   pub ends : List ℕ
   pub avail : List ℕ
 
--- More than any end, and more than any key.
+-- The greatest word: more than any end, and more than any key.
 abbrev pub never : ℕ
-never = 4294967295
+never = wordValues - 1
 
 unfoldable pub leastBelow : ℕ → (ℕ → ℕ) → ℕ
 leastBelow zero f = never

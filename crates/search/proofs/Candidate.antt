@@ -8,7 +8,7 @@ use lib.Dec.{eqb, ltb}
 use lib.ListN.{getD}
 use Rattle.plan.specs.Limits.{longestDuration, packing}
 use Rattle.base.proofs.Bools.{by-bool, true-not-false, and-left, and-right, cond-true, cond-false}
-use Rattle.base.proofs.Below.{cond-le, max-least}
+use Rattle.base.proofs.Below.{max-chosen}
 use Rattle.sets.proofs.Laws.{has-none, meet-not, size-without}
 use Rattle.sets.specs.Sets.{most, has, meet, size}
 use Rattle.scan.specs.Model.{State, never, ready, earliest, finish, isOpen, keyOf, key, isChoice}
@@ -68,9 +68,9 @@ module _ {t : List ℕ} (fit : Fit t) {x : Position} {s : State} (at : AtState t
     ready-early : ready (problemIn t) s i ≤ longestDuration * most - longestDuration * size (x .left) most
     unfolding ready
     ready-early =
-        max-least most (λ j. cond (has (problemIn t .preds i) j) (getD (s .ends) j 0) 0)
+        max-chosen most (has (problemIn t .preds i)) (λ j. getD (s .ends) j 0)
         (longestDuration * most - longestDuration * size (x .left) most)
-        (λ j l. omega (arith, cond-le (has (problemIn t .preds i) j) (getD (s .ends) j 0), at .early j))
+        (λ j l. omega (arith, at .early j))
 
     pub finish-early : finish (problemIn t) s i + longestDuration * size (x .left - 2 ^ i) most ≤ longestDuration *
         most

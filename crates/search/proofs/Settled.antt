@@ -1,5 +1,5 @@
 -- What is left wants no resource twice: each candidate is frozen as it comes, with the same schedules below.
-use Prim.Native.Nat.{ℕ, _+_, _-_, _^_, _<_, max}
+use Prim.Native.Nat.{ℕ, _+_, _-_, _^_, _≤_, _<_, max}
 use native.Mathlib.Decide.{ℕ-discrete}
 use native.Mathlib.Omega.{arith}
 use mathlib.Core.Bool.{Bool, true, false, not, _&&_, _||_, and-false, or-false}
@@ -14,7 +14,7 @@ use Rattle.base.proofs.Bools.{by-bool, true-not-false, and-left, and-right}
 use Rattle.sets.proofs.Laws.{has-none, has-without}
 use Rattle.sets.specs.Sets.{most, has, size, width}
 use Rattle.scan.specs.Model.{State, finish, freeze, lastEnd}
-use Rattle.plan.specs.Limits.{mostResources, cellValues}
+use Rattle.plan.specs.Limits.{mostResources, latestPossible}
 use Rattle.scan.proofs.Forced as forced
 use Rattle.sets.specs.Lowest.{lowestOf, afterLowest}
 use Rattle.sets.proofs.Members.{lowest-is, lowest-has, lowest-below}
@@ -105,11 +105,11 @@ module _ {t : List ℕ} (fit : Fit t) {x : Position} {s : State} (at : AtState t
     left-has : has (x .left) i ≡ true
     left-has = waits fit at i chosen
 
-    pub end-small : end < cellValues
-    end-small = omega (arith, end-is, finish-early fit at i chosen)
+    pub end-early : end ≤ latestPossible
+    end-early = omega (arith, end-is, finish-early fit at i chosen)
 
     pub settle-timed : Timed t (set (x .work) i end)
-    settle-timed = timed-store t (x .work) i end end-small timed
+    settle-timed = timed-store t (x .work) i end end-early timed
 
     ends-other : (j : ℕ) → j ≢ i → getD (set (x .work) i end) j 0 ≡ getD (x .work) j 0
     ends-other j ne = getD-set-other (x .work) i j end 0 ne
@@ -262,8 +262,8 @@ module _ {t b : List ℕ} {x y : Position} {cells : List ℕ} (start : Standing 
         (λ ne. omega arith)
 
     module _ {end : ℕ} (ends-at : end ≡ finishAt t (y .work) i) where
-      pub small-here : end < cellValues
-      small-here = end-small (start .fit) at-here (h .beside .timed) apart-here i chosen-here end ends-at
+      pub early-here : end ≤ latestPossible
+      early-here = end-early (start .fit) at-here (h .beside .timed) apart-here i chosen-here end ends-at
 
       pub timed-here : Timed t (set (y .work) i end)
       timed-here = settle-timed (start .fit) at-here (h .beside .timed) apart-here i chosen-here end ends-at

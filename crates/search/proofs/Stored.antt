@@ -1,6 +1,6 @@
 -- A candidate's end is stored in the working array, the search below is done, and the store on its resource is
 -- undone.
-use Prim.Native.Nat.{ℕ, _+_, _-_, _^_, _<_, max}
+use Prim.Native.Nat.{ℕ, _+_, _-_, _^_, _≤_, _<_, max}
 use native.Mathlib.Decide.{ℕ-discrete}
 use native.Mathlib.Omega.{arith}
 use mathlib.Core.Bool.{Bool, true, false, not, _&&_, _||_, and-false}
@@ -15,7 +15,7 @@ use Rattle.base.proofs.Bools.{true-not-false, and-left}
 use Rattle.sets.proofs.Laws.{has-without}
 use Rattle.sets.specs.Sets.{most, has, size}
 use Rattle.scan.specs.Model.{State, finish, freeze}
-use Rattle.plan.specs.Limits.{cellValues}
+use Rattle.plan.specs.Limits.{latestPossible}
 use Rattle.network.specs.Network.{resourceAt}
 use Rattle.candidates.specs.Tables.{problemIn}
 use Rattle.candidates.specs.Work.{endAt, readyAt, freeAt, Timed, opens, Released, readyFrom, freeFrom}
@@ -25,11 +25,11 @@ use Rattle.candidates.proofs.Columns.{resource-at}
 use Rattle.search.proofs.Parts.{store-either}
 use Rattle.search.proofs.Child.{below, waits, finish-early, child, no-release, no-release-of}
 
-pub timed-store : (t w : List ℕ) (i x : ℕ) → x < cellValues → Timed t w → Timed t (set w i x)
+pub timed-store : (t w : List ℕ) (i x : ℕ) → x ≤ latestPossible → Timed t w → Timed t (set w i x)
 timed-store t w i x l timed =
     record {
       durations = timed .durations;
-      times = λ k. store-either (λ y. y < cellValues) w i x k (λ e. l) (timed .times k);
+      times = λ k. store-either (λ y. y ≤ latestPossible) w i x k (λ e. l) (timed .times k);
       size = length-set w i x ∙ timed .size;
     }
 
@@ -78,12 +78,12 @@ module _ {t : List ℕ} (fit : Fit t) {x : Position} (timed : Timed t (x .work))
   left-has : has (x .left) i ≡ true
   left-has = waits fit at i chosen
 
-  pub end-small : end < cellValues
-  end-small = omega (arith, finish-early fit at i chosen)
+  pub end-early : end ≤ latestPossible
+  end-early = omega (arith, finish-early fit at i chosen)
 
   pub stored-timed : Timed t (set (set (x .work) i end) (freeFrom + r) end)
   stored-timed =
-      timed-store t (set (x .work) i end) (freeFrom + r) end end-small (timed-store t (x .work) i end end-small timed)
+      timed-store t (set (x .work) i end) (freeFrom + r) end end-early (timed-store t (x .work) i end end-early timed)
 
   end-other : (j : ℕ) → j < most → j ≢ i → endAt stored j ≡ endAt (x .work) j
   end-other j l ne =

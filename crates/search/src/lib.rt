@@ -45,7 +45,7 @@ fn finish(
     work: &mut Work,
     cells: &mut Cells,
     book: &[u32],
-    area: &mut [u16],
+    area: &mut [u32],
 )
     requires { ⌜ Standing (now table) (now book) (position left cands latest (now work)) (now cells)
         × (0 < left) × (afterLowest left ≡ 0) ⌝ }
@@ -75,7 +75,7 @@ fn settle(
     work: &mut Work,
     cells: &mut Cells,
     book: &[u32],
-    area: &mut [u16],
+    area: &mut [u32],
 )
     requires { ⌜ Standing (now table) (now book) (position left cands latest (now work)) (now cells)
         × Uncontested (now table) left ⌝ }
@@ -113,7 +113,7 @@ fn descend(
     work: &mut Work,
     cells: &mut Cells,
     book: &[u32],
-    area: &mut [u16],
+    area: &mut [u32],
 )
     requires { ⌜ Standing (now table) (now book) (position left cands latest (now work)) (now cells)
         × (0 < known → 0 < afterLowest left) ⌝ }
@@ -163,7 +163,7 @@ pub fn search(
     link: u32,
     tally: Tally,
     book: &[u32],
-    area: &mut [u16],
+    area: &mut [u32],
 ) -> Tally
     requires { ⌜ Tabled x number × Rivals (problemOf x .preds) link (now book) ⌝ }
     ensures { λ r.

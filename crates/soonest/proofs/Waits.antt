@@ -1,8 +1,8 @@
 -- The search for a sooner tick: it goes from the end of one clash to the end of another, and nothing fits between.
-use Prim.Native.Nat.{ℕ, _+_, _-_, _≤_, _<_}
+use Prim.Native.Nat.{ℕ, _+_, _≤_, _<_}
 use native.Mathlib.Decide.{decLt}
 use native.Mathlib.Omega.{arith}
-use mathlib.Core.Bool.{Bool, true, false, cond, not, _&&_}
+use mathlib.Core.Bool.{Bool, true, false, not, _&&_}
 use mathlib.Core.List.{List}
 use mathlib.Core.Logic.{by-cases}
 use mathlib.Core.Path.{_≡_, ap}
@@ -10,9 +10,9 @@ use lib.Dec.{leb, ltb}
 use lib.ListN.{getD}
 use borrow.Author.Tests.{ltb-true, leb-true, lt-ltb, le-leb, lt-leb}
 use Rattle.base.proofs.Bools.{by-bool, true-not-false, both, and-left, and-right}
-use Rattle.base.proofs.Below.{every-at, every-of, implies-elim, implies-intro, cond-le, max-least}
+use Rattle.base.proofs.Below.{every-at, every-of, implies-elim, implies-intro, max-chosen}
 use Rattle.base.specs.Below.{everyBelow, _implies_}
-use Rattle.plan.specs.Limits.{cellValues}
+use Rattle.plan.specs.Limits.{latestPossible}
 use Rattle.sets.specs.Sets.{most, has}
 use Rattle.scan.specs.Model.{Problem}
 use Rattle.scan.specs.Union.{fits, over, isSoonest}
@@ -26,23 +26,18 @@ module _ (q : Problem) (ends : List ℕ) (before j : ℕ) where
   abbrev tested : ℕ → Bool
   tested t = (leb first t && ltb (t + q .duration j) (getD ends j 0)) implies not (fits q ends j t)
 
-  pub over-fits : ((k : ℕ) → getD ends k 0 < cellValues) → over q ends before < cellValues
-  over-fits times =
-      omega (
-        arith,
-        max-least most (λ k. cond (has before k) (getD ends k 0) 0) (cellValues - 1)
-            λ k l. omega (arith, cond-le (has before k) (getD ends k 0), times k),
-      )
+  pub over-early : ((k : ℕ) → getD ends k 0 ≤ latestPossible) → over q ends before ≤ latestPossible
+  over-early times = max-chosen most (has before) (λ k. getD ends k 0) latestPossible (λ k l. times k)
 
 -- j starts late enough, and fits on no tick before t.
 pub record Waits (q : Problem) (ends : List ℕ) (before j t : ℕ) : Type 0 where
   pub from : over q ends before ≤ t
   pub fair : over q ends before + q .duration j ≤ getD ends j 0
   pub none : (u : ℕ) → over q ends before ≤ u → u < t → fits q ends j u ≡ false
-  pub low : t < cellValues
+  pub low : t ≤ latestPossible
 
 module _ (q : Problem) (ends : List ℕ) (before j t : ℕ) where
-  pub waits-none : ((k : ℕ) → getD ends k 0 < cellValues) → t ≡ over q ends before
+  pub waits-none : ((k : ℕ) → getD ends k 0 ≤ latestPossible) → t ≡ over q ends before
       → t + q .duration j ≤ getD ends j 0
       → Waits q ends before j t
   waits-none times e h =
@@ -50,7 +45,7 @@ module _ (q : Problem) (ends : List ℕ) (before j t : ℕ) where
         from = omega arith;
         fair = omega arith;
         none = λ u a b. absurd (omega arith);
-        low = omega (arith, over-fits q ends before j times);
+        low = omega (arith, over-early q ends before j times);
       }
 
   -- j would start before the others have ended.
@@ -65,7 +60,7 @@ module _ (q : Problem) (ends : List ℕ) (before j t : ℕ) where
       pub clash-later : 0 < r → t < r
       clash-later h = let (k, l, y, e) = clash .some h in omega (arith, clash-after q ends j k t y)
 
-      pub waits-more : ((k : ℕ) → getD ends k 0 < cellValues) → 0 < r → Waits q ends before j r
+      pub waits-more : ((k : ℕ) → getD ends k 0 ≤ latestPossible) → 0 < r → Waits q ends before j r
       waits-more times h =
           let (k, l, y, e) = clash .some h in
           record {

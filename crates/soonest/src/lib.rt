@@ -11,7 +11,7 @@ use sets::lowest;
 ghost use mathlib.Core.Path.{_≡_};
 ghost use Prim.Native.Nat.{ℕ, _^_, _≤_, _<_};
 ghost use lib.ListN.{length, getD};
-ghost use Rattle.plan.specs.Limits.{cellValues};
+ghost use Rattle.plan.specs.Limits.{latestPossible};
 ghost use Rattle.sets.specs.Sets.{most};
 ghost use Rattle.scan.specs.Union.{isSoonest};
 ghost use Rattle.network.specs.Network.{Grouped};
@@ -21,7 +21,7 @@ ghost use Rattle.soonest.specs.Clash.{Clash, Misplaced};
 
 // The end of an activity on the resource of j that runs while j would from tick t on, or 0 where there is none.
 fn clash_end(table: &Table, work: &Work, j: usize, t: u32) -> u32
-    requires { ⌜ (j < most) × (t < cellValues) × Grouped (now table) × Timed (now table) (now work) ⌝ }
+    requires { ⌜ (j < most) × (t ≤ latestPossible) × Grouped (now table) × Timed (now table) (now work) ⌝ }
     ensures { λ r. ⌜ Clash (problemIn (now (table .entry))) (now (work .entry)) j t r ⌝ }
 {
     let end = t + duration_of(table[j]);

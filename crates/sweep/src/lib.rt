@@ -24,7 +24,7 @@ fn search_variant(
     tally: Tally,
     heads: &mut Heads,
     book: &mut [u32],
-    area: &mut [u16],
+    area: &mut [u32],
 ) -> Tally
     requires { ⌜ ((t : Term) × HoldsVariant campaign t v × Ready campaign t v (now heads) (now book)) ⌝ }
     ensures { λ r.
@@ -49,7 +49,7 @@ fn sweep_with(
     start: Tally,
     cap: u32,
     book: &mut [u32],
-    area: &mut [u16],
+    area: &mut [u32],
 ) -> Tally
     requires { ⌜ ((t : Term) × HoldsPlan campaign t × (entryCells * variantCount t ≤ length (now book))) ⌝ }
     ensures { λ r.
@@ -73,7 +73,7 @@ fn sweep_with(
 const FEW: u32 = 16;
 
 // The schedules of all variants, each once, until there are more than `cap`; the tally is carried on.
-pub fn sweep(campaign: Campaign, start: Tally, cap: u32, area: &mut [u16]) -> Tally
+pub fn sweep(campaign: Campaign, start: Tally, cap: u32, area: &mut [u32]) -> Tally
     requires { ⌜ ((t : Term) × HoldsPlan campaign t) ⌝ }
     ensures { λ r.
         ⌜ ((t : Term) → HoldsPlan campaign t

@@ -19,7 +19,7 @@ use Rattle.base.proofs.Bools.{cond-true, cond-false}
 use Rattle.base.proofs.Order.{same-first, other-first}
 use Rattle.scan.specs.Model.{Problem, startOf, starts, lastEnd}
 use Rattle.scan.proofs.Starts.{starts-length, starts-at}
-use Rattle.plan.specs.Limits.{cellValues, wordValues}
+use Rattle.plan.specs.Limits.{latestPossible, wordValues}
 use Rattle.timetable.specs.Mark.{places}
 use Rattle.network.specs.Network.{variantOf, actsOf, durationAt}
 use Rattle.candidates.specs.Tables.{problemIn}
@@ -31,7 +31,7 @@ use Rattle.sets.specs.Sets.{width}
 
 -- ---- starts
 
-start-below : (end d : ℕ) → end < cellValues → startOf end d < cellValues
+start-below : (end d : ℕ) → end < wordValues → startOf end d < wordValues
 unfolding startOf
 start-below end d h =
     by-cases
@@ -134,7 +134,7 @@ all-stored cells s cells′ n all e f back =
     ∙ append-nil (take startsFrom cells ++ s)
 
 pub tally-stored : (cells s cells′ : List ℕ) → length cells ≡ tallyCells → length s ≡ places
-    → ((i : ℕ) → i < places → getD s i 0 < cellValues)
+    → ((i : ℕ) → i < places → getD s i 0 < wordValues)
     → cells′ ≡ take startsFrom cells ++ s → IsTally cells′
 tally-stored cells s cells′ e f low back =
     let front : length (take startsFrom cells) ≡ startsFrom = length-take-le startsFrom cells (omega arith) in
@@ -147,10 +147,10 @@ tally-stored cells s cells′ e f low back =
           omega (arith, at, low i l);
     }
 
-pub starts-below : (p : Problem) (ends : List ℕ) → ((i : ℕ) → getD ends i 0 < cellValues) → (i : ℕ) → i < places
-    → getD (starts p places ends) i 0 < cellValues
+pub starts-below : (p : Problem) (ends : List ℕ) → ((i : ℕ) → getD ends i 0 ≤ latestPossible) → (i : ℕ) → i < places
+    → getD (starts p places ends) i 0 < wordValues
 starts-below p ends times i l =
-    omega (arith, starts-at p ends places i l, start-below (getD ends i 0) (p .duration i) (times i))
+    omega (arith, starts-at p ends places i l, start-below (getD ends i 0) (p .duration i) (omega (arith, times i)))
 
 -- One more of the list s is copied.
 pub one-copied : (l s : List ℕ) (i x : ℕ) → i < length l → i < length s → x ≡ getD s i 0 → take i l ≡ take i s

@@ -2,7 +2,7 @@
 use Prim.Native.Nat.{ℕ, _≤_, _<_}
 use mathlib.Core.List.{List}
 use mathlib.Core.Path.{_≡_}
-use Rattle.plan.specs.Limits.{longestDuration, cellValues, wordValues}
+use Rattle.plan.specs.Limits.{longestDuration, wordValues}
 use Rattle.sets.specs.Sets.{most}
 use Rattle.timetable.specs.Mark.{places}
 use Rattle.scan.specs.Model.{lastEnd}
@@ -21,7 +21,7 @@ pub record Fit (t : List ℕ) : Type 0 where
   pub grouped : Grouped t
   pub short : (i : ℕ) → i < most → durationAt t i ≤ longestDuration
   pub acts : actsOf t ≤ places
-  pub variant : variantOf t < cellValues
+  pub variant : variantOf t < wordValues
   pub cap : capOf t < wordValues
 
 -- A schedule is found: the ends in the working array, the latest of them, and the cells of the tally.

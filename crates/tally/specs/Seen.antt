@@ -14,7 +14,7 @@ use Rattle.network.specs.Network.{capOf, variantOf, actsOf, linkOf}
 use Rattle.candidates.specs.Tables.{problemIn}
 use Rattle.orders.specs.Book.{isNewBy}
 use Rattle.tally.specs.declared.Tally.{Tally}
-use Rattle.plan.specs.Limits.{cellValues}
+use Rattle.plan.specs.Limits.{wordValues}
 use Rattle.variant.specs.declared.Variant.{Variant}
 
 -- The variant's number, the number of the plan's activities, and the cap.
@@ -55,7 +55,7 @@ tallyCells = startsFrom + places
 
 pub record IsTally (cells : List ℕ) : Type 0 where
   pub size : length cells ≡ tallyCells
-  pub starts : (i : ℕ) → i < places → getD cells (startsFrom + i) 0 < cellValues
+  pub starts : (i : ℕ) → i < places → getD cells (startsFrom + i) 0 < wordValues
 
 abbrev pub tallyOf : List ℕ → Tally
 tallyOf cells =

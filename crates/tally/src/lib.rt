@@ -17,7 +17,7 @@ ghost use Rattle.scan.specs.Model.{startOf, starts};
 ghost use Rattle.network.specs.Network.{actsOf, linkOf};
 ghost use Rattle.orders.specs.Book.{Rivals};
 ghost use Rattle.candidates.specs.Tables.{problemIn};
-ghost use Rattle.plan.specs.Limits.{cellValues, wordValues};
+ghost use Rattle.plan.specs.Limits.{wordValues};
 ghost use Rattle.tally.specs.Seen.{startsFrom, rowPlaced, settingIn, rowIn, keptOf, IsTally, tallyOf, better};
 ghost use Rattle.tally.specs.Seen.{seen, seenIn, noTally, rankIn, rankKept};
 ghost use Rattle.tally.specs.Leaf.{Ended, Fit, Leaf};
@@ -59,19 +59,19 @@ pub const TALLY_CELLS: usize = STARTS + MOST_ACTS;
 
 pub type Cells = [u64; TALLY_CELLS];
 
-fn start_of(end: u32, duration: u32) -> u16
-    requires { ⌜ (end < cellValues) × ((end ≡ 0 → ⊥) → duration ≤ end) ⌝ }
+fn start_of(end: u32, duration: u32) -> u32
+    requires { ⌜ ((end ≡ 0 → ⊥) → duration ≤ end) ⌝ }
     ensures { λ r. ⌜ r ≡ startOf end duration ⌝ }
 {
     if end == 0 {
         Timetable::MARK
     } else {
-        (end - duration) as u16
+        end - duration
     }
 }
 
 // A row is the variant's number and then a start for each of the plan's activities.
-fn write_row(row: &mut [u16], table: &Table, work: &Work)
+fn write_row(row: &mut [u32], table: &Table, work: &Work)
     requires { ⌜ Ended (now table) (now work) × Fit (now table) × (actsOf (now table) + 1 ≤ length (now row)) ⌝ }
     ensures { λ _.
         ⌜ now (row .exit)
@@ -79,7 +79,7 @@ fn write_row(row: &mut [u16], table: &Table, work: &Work)
         ++ drop (actsOf (now (table .entry)) + 1) (now (row .entry)) ⌝ }
 {
     let acts = table[ACTS] as usize;
-    row[0] = table[VARIANT] as u16;
+    row[0] = table[VARIANT];
     let mut i = 0;
     while i < acts {
         row[1 + i] = start_of(work[i], duration_of(table[i]));
@@ -88,7 +88,7 @@ fn write_row(row: &mut [u16], table: &Table, work: &Work)
 }
 
 // The row in its own stretch of the area, where that is long enough.
-fn list(table: &Table, work: &Work, count: u64, area: &mut [u16])
+fn list(table: &Table, work: &Work, count: u64, area: &mut [u32])
     requires { ⌜ Ended (now table) (now work) × Fit (now table) × (count < wordValues) ⌝ }
     ensures { λ _.
         ⌜ now (area .exit)
@@ -172,7 +172,7 @@ fn rank(table: &Table, work: &Work, latest: u32, cells: &mut Cells)
 }
 
 // Once there are more than the cap, nothing more is done.
-pub fn leave(table: &Table, work: &Work, latest: u32, cells: &mut Cells, area: &mut [u16])
+pub fn leave(table: &Table, work: &Work, latest: u32, cells: &mut Cells, area: &mut [u32])
     requires { ⌜ Leaf (now table) (now work) latest (now cells) ⌝ }
     ensures { λ _. ⌜ IsTally (now (cells .exit)) ⌝ }
     ensures { λ _.
@@ -193,7 +193,7 @@ pub fn leave_new(
     latest: u32,
     cells: &mut Cells,
     book: &[u32],
-    area: &mut [u16],
+    area: &mut [u32],
 )
     requires { ⌜ Leaf (now table) (now work) latest (now cells)
         × Rivals (problemIn (now table) .preds) (linkOf (now table)) (now book) ⌝ }
@@ -234,7 +234,7 @@ pub fn tally_of(cells: &Cells) -> Tally
     let mut best = Timetable::empty();
     let mut i = 0;
     while i < MOST_ACTS {
-        best.starts[i] = cells[STARTS + i] as u16;
+        best.starts[i] = cells[STARTS + i] as u32;
         i += 1;
     }
     Tally {

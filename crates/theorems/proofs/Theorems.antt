@@ -165,7 +165,7 @@ pub listed-sessions : (p : Plan) (t : Term) → Valid p t → (v : ℕ) (starts 
     → isSession p (variantAt t v) (timetableOf p starts) ≡ true
 listed-sessions = pair-checks
 
--- No accepted file is longer than 959 bytes, and one is as long.
+-- No accepted file is longer than 983 bytes, and one is as long.
 pub longest-file : ((s : List ℕ) (p : Plan) (t : Term) → judge s ≡ accepts p t → length s ≤ longest)
     × ((s : List ℕ) × (p : Plan) × (t : Term) × (judge s ≡ accepts p t) × (length s ≡ longest))
 longest-file =

@@ -5,7 +5,7 @@ use lib.ListN.{replicate}
 use Rattle.plan.specs.Limits.{mostActs}
 
 abbrev pub mark : ℕ
-mark = 65535
+mark = 4294967295
 
 abbrev pub places : ℕ
 places = mostActs

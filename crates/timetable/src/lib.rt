@@ -5,11 +5,11 @@ use plan::MOST_ACTS;
 
 // A start is in ticks; an absent activity has the mark.
 pub struct Timetable {
-    pub starts: [u16; MOST_ACTS],
+    pub starts: [u32; MOST_ACTS],
 }
 
 impl Timetable {
-    pub const MARK: u16 = 65535;
+    pub const MARK: u32 = 4294967295;
 
     // The timetable in which every activity is absent.
     pub fn empty() -> Timetable

@@ -85,7 +85,7 @@ fn of_best(a: BestAnswer) -> [u64; 4]
 }
 
 // The starts found, or those that stood there.
-fn starts_of(a: BestAnswer, found: [u16; MOST_ACTS], before: [u16; MOST_ACTS]) -> [u16; MOST_ACTS]
+fn starts_of(a: BestAnswer, found: [u32; MOST_ACTS], before: [u32; MOST_ACTS]) -> [u32; MOST_ACTS]
     ensures { λ s. ⌜ s ≡ startsKept a found before ⌝ }
 {
     match a {
@@ -117,7 +117,7 @@ pub extern "C" fn vialbluff_write(file: &[u8], variant: u32, area: &mut [u8], ou
 pub extern "C" fn vialbluff_check(
     file: &[u8],
     variant: u32,
-    starts: &[u16; MOST_ACTS],
+    starts: &[u32; MOST_ACTS],
     out: &mut [u64; 4],
 )
     ensures { λ _. ⌜ now (out .exit) ≡ checkCells (checkOf (now (file .entry)) variant (now (starts .entry))) ⌝ }
@@ -134,7 +134,7 @@ pub extern "C" fn vialbluff_count(file: &[u8], cap: u32, out: &mut [u64; 4])
 }
 
 #[no_mangle]
-pub extern "C" fn vialbluff_list(file: &[u8], cap: u32, area: &mut [u16], out: &mut [u64; 4])
+pub extern "C" fn vialbluff_list(file: &[u8], cap: u32, area: &mut [u32], out: &mut [u64; 4])
     ensures { λ _. ⌜ ListLeaves (now (file .entry)) cap (now (area .entry)) (now (area .exit)) (now (out .exit)) ⌝ }
 {
     *out = of_list(calls::list(file, cap, area));
@@ -144,7 +144,7 @@ pub extern "C" fn vialbluff_list(file: &[u8], cap: u32, area: &mut [u16], out: &
 pub extern "C" fn vialbluff_best(
     file: &[u8],
     cap: u32,
-    starts: &mut [u16; MOST_ACTS],
+    starts: &mut [u32; MOST_ACTS],
     out: &mut [u64; 4],
 )
     ensures { λ _. ⌜ BestLeaves (now (file .entry)) cap (now (starts .entry)) (now (starts .exit)) (now (out .exit)) ⌝ }

@@ -4,9 +4,9 @@
 pub const PLACES: usize = 24;
 
 /// What stands in a timetable at an absent activity.
-pub const MARK: u16 = 65535;
+pub const MARK: u32 = 4294967295;
 
-pub type Timetable = [u16; PLACES];
+pub type Timetable = [u32; PLACES];
 
 /// Number and figure of a refusal.
 #[derive(Clone, Copy, Debug, PartialEq, Eq)]
@@ -46,7 +46,7 @@ pub trait Planner {
 
     /// Writes the rows at the front of the area, a variant and then a start for each activity; answers their number. They
     /// stand by variant, then by the start of activity 0, then of activity 1 and so on through the present ones.
-    fn list(&self, file: &[u8], cap: u32, area: &mut [u16]) -> Answer<u64>;
+    fn list(&self, file: &[u8], cap: u32, area: &mut [u32]) -> Answer<u64>;
 
     /// Writes the schedule of the first shortest row into `starts`.
     fn best(&self, file: &[u8], cap: u32, starts: &mut Timetable) -> Answer<Best>;

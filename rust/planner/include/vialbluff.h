@@ -5,7 +5,7 @@
  *   refusal:  out[0] = its number, out[1] = its figure, the rest 0
  *
  *   number  figure              condition
- *   1       0                   length 0 or over 959
+ *   1       0                   length 0 or over 983
  *   2       line, from 1        line absent, ill formed, or bytes past the last line
  *   3       line                a value out of range
  *   10      line                a group of one child
@@ -31,7 +31,7 @@
 #include <stdint.h>
 
 #define VIALBLUFF_PLACES 24
-#define VIALBLUFF_ABSENT 65535
+#define VIALBLUFF_ABSENT 4294967295u
 
 #ifdef __cplusplus
 extern "C" {
@@ -46,7 +46,7 @@ void vialbluff_write(const uint8_t *file, size_t file_len, uint32_t variant,
 
 /* out[1] 1 if the timetable is a feasible schedule of the variant, else 0. */
 void vialbluff_check(const uint8_t *file, size_t file_len, uint32_t variant,
-                     const uint16_t starts[VIALBLUFF_PLACES], uint64_t out[4]);
+                     const uint32_t starts[VIALBLUFF_PLACES], uint64_t out[4]);
 
 /* out[1] the number of active schedules of all variants. */
 void vialbluff_count(const uint8_t *file, size_t file_len, uint32_t cap, uint64_t out[4]);
@@ -55,12 +55,12 @@ void vialbluff_count(const uint8_t *file, size_t file_len, uint32_t cap, uint64_
  * each activity; out[1] the rows. They stand by variant, then by the start of activity 0, then of activity 1 and so on
  * through the present ones. */
 void vialbluff_list(const uint8_t *file, size_t file_len, uint32_t cap,
-                    uint16_t *area, size_t area_len, uint64_t out[4]);
+                    uint32_t *area, size_t area_len, uint64_t out[4]);
 
 /* Writes the schedule of the first shortest of LIST's rows into `starts`; out[1] its variant, out[2] its makespan, out[3]
  * the number of rows. */
 void vialbluff_best(const uint8_t *file, size_t file_len, uint32_t cap,
-                    uint16_t starts[VIALBLUFF_PLACES], uint64_t out[4]);
+                    uint32_t starts[VIALBLUFF_PLACES], uint64_t out[4]);
 
 #ifdef __cplusplus
 }

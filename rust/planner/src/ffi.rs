@@ -21,7 +21,7 @@ extern "C" {
     fn vialbluff_count(file: *const u8, file_len: usize, cap: u32, out: *mut Out);
 
     // 0, rows
-    fn vialbluff_list(file: *const u8, file_len: usize, cap: u32, area: *mut u16, area_len: usize, out: *mut Out);
+    fn vialbluff_list(file: *const u8, file_len: usize, cap: u32, area: *mut u32, area_len: usize, out: *mut Out);
 
     // 0, variant, makespan, sessions
     fn vialbluff_best(file: *const u8, file_len: usize, cap: u32, starts: *mut Timetable, out: *mut Out);
@@ -70,7 +70,7 @@ impl Planner for Linked {
         Ok(sessions)
     }
 
-    fn list(&self, file: &[u8], cap: u32, area: &mut [u16]) -> Answer<u64> {
+    fn list(&self, file: &[u8], cap: u32, area: &mut [u32]) -> Answer<u64> {
         let [rows, ..] = answer(|out| unsafe {
             vialbluff_list(file.as_ptr(), file.len(), cap, area.as_mut_ptr(), area.len(), out)
         })?;

@@ -5,7 +5,7 @@ use crate::term::{Kind, Term};
 use calls::Refusal;
 use std::ops::RangeInclusive;
 
-pub const LONGEST: usize = 959;
+pub const LONGEST: usize = 983;
 pub const MOST_VARIANTS: u64 = 4096;
 
 #[derive(Clone, Copy, Debug, PartialEq, Eq)]
@@ -76,7 +76,7 @@ impl<'a> Lines<'a> {
         let (resource, duration) = (self.value(resource)?, self.value(duration)?);
         Ok(Activity {
             resource: self.in_range(resource, 0..=resources - 1)?,
-            duration: self.in_range(duration, 1..=2000)?,
+            duration: self.in_range(duration, 1..=20_000)?,
         })
     }
 

@@ -48,7 +48,7 @@ pub fn is_session(activities: &[Activity], chosen: &Term, starts: &Timetable) ->
 }
 
 /// The makespan of a row: a variant and then a start for each activity.
-pub fn makespan_of(plan: &Plan, row: &[u16]) -> u64 {
+pub fn makespan_of(plan: &Plan, row: &[u32]) -> u64 {
     let present = || (0..plan.activities.len()).filter(|&i| row[i + 1] != MARK);
     let start = |i: usize| u64::from(row[i + 1]);
     let latest = present().map(|i| start(i) + plan.activities[i].duration).max().unwrap();
@@ -56,7 +56,7 @@ pub fn makespan_of(plan: &Plan, row: &[u16]) -> u64 {
 }
 
 /// The first shortest of some rows, as BEST answers it.
-pub fn first_shortest(plan: &Plan, rows: &[Vec<u16>]) -> (Best, Timetable) {
+pub fn first_shortest(plan: &Plan, rows: &[Vec<u32>]) -> (Best, Timetable) {
     let row = rows.iter().min_by_key(|row| makespan_of(plan, row)).unwrap();
     let mut starts = [MARK; PLACES];
     starts[..row.len() - 1].copy_from_slice(&row[1..]);
@@ -67,7 +67,7 @@ pub fn first_shortest(plan: &Plan, rows: &[Vec<u16>]) -> (Best, Timetable) {
 pub struct Reference;
 
 impl Reference {
-    fn rows(&self, file: &[u8], cap: u32) -> Answer<(Plan, Vec<Vec<u16>>)> {
+    fn rows(&self, file: &[u8], cap: u32) -> Answer<(Plan, Vec<Vec<u32>>)> {
         let plan = file::parse(file)?;
         let mut steps = 4000;
         loop {
@@ -109,7 +109,7 @@ impl Planner for Reference {
         Ok(self.rows(file, cap)?.1.len() as u64)
     }
 
-    fn list(&self, file: &[u8], cap: u32, area: &mut [u16]) -> Answer<u64> {
+    fn list(&self, file: &[u8], cap: u32, area: &mut [u32]) -> Answer<u64> {
         let rows = self.rows(file, cap)?.1;
         let cells = rows.concat();
         if area.len() < cells.len() {

@@ -11,15 +11,15 @@ use std::collections::HashSet;
 
 pub enum Rows {
     /// The rows, and how many active sessions each variant has, with those of lower variants.
-    All(Vec<Vec<u16>>, Vec<u64>),
+    All(Vec<Vec<u32>>, Vec<u64>),
     OverCap,
     /// The steps allowed were not enough to tell.
     Unsettled,
 }
 
-pub fn row_of(plan: &Plan, variant: u64, project: &Project, starts: &[u64]) -> Vec<u16> {
+pub fn row_of(plan: &Plan, variant: u64, project: &Project, starts: &[u64]) -> Vec<u32> {
     let mut row = vec![MARK; plan.activities.len() + 1];
-    row[0] = variant as u16;
+    row[0] = variant as u32;
     for (&number, &start) in project.numbers.iter().zip(starts) {
         row[number + 1] = start.try_into().unwrap();
     }

@@ -12,7 +12,7 @@ fn of(text: &str) -> Result<u64, Refusal> {
     read((text.replace('/', "\n") + "\n").as_bytes())
 }
 
-const SMALL: &str = "plan=1/res=2/acts=2/act=0,1/act=1,2000/nodes=3/node=s,2/node=a,0/node=a,1";
+const SMALL: &str = "plan=1/res=2/acts=2/act=0,1/act=1,20000/nodes=3/node=s,2/node=a,0/node=a,1";
 
 /// `SMALL` with one part replaced.
 fn with(part: &str, by: &str) -> Result<u64, Refusal> {
@@ -23,15 +23,15 @@ fn with(part: &str, by: &str) -> Result<u64, Refusal> {
 #[test]
 fn length() {
     let longest = "plan=1/res=16/acts=24".to_string()
-        + &"/act=15,2000".repeat(24)
+        + &"/act=15,20000".repeat(24)
         + "/nodes=64/node=x,63"
         + &"/node=a,23".repeat(63);
-    assert_eq!(longest.len() + 1, 959);
+    assert_eq!(longest.len() + 1, 983);
     assert_eq!(of(&longest), Ok(63));
     assert_eq!(of(&(longest + "/")), Err(refusal(1, 0)));
     assert_eq!(read(b""), Err(refusal(1, 0)));
-    assert_eq!(read(&[0; 960]), Err(refusal(1, 0)));
-    assert_eq!(read(&[0; 959]), Err(refusal(2, 1)));
+    assert_eq!(read(&[0; 984]), Err(refusal(1, 0)));
+    assert_eq!(read(&[0; 983]), Err(refusal(2, 1)));
 }
 
 #[test]
@@ -85,7 +85,7 @@ fn range() {
         ("acts=2", "acts=25", 3),
         ("act=0,1", "act=2,1", 4),
         ("act=0,1", "act=0,0", 4),
-        ("act=1,2000", "act=1,2001", 5),
+        ("act=1,20000", "act=1,20001", 5),
         ("nodes=3", "nodes=0", 6),
         ("nodes=3", "nodes=65", 6),
         ("node=s,2", "node=s,0", 7),
@@ -93,11 +93,12 @@ fn range() {
         ("node=s,2", "node=x,0", 7),
         ("node=a,1", "node=a,2", 9),
         // a line before one that is ill formed
-        ("act=0,1/act=1,2000", "act=2,1/act=1,02000", 4),
+        ("act=0,1/act=1,20000", "act=2,1/act=1,02000", 4),
     ] {
         assert_eq!(with(part, by), Err(refusal(3, line)), "{by:?} for {part:?}");
     }
     assert_eq!(with("res=2", "res=16"), Ok(1));
+    assert_eq!(with("act=1,20000", "act=1,2001"), Ok(1));
 }
 
 #[test]
@@ -114,8 +115,8 @@ fn groups_of_one() {
         assert_eq!(with(part, by), Err(refusal(10, line)), "{by:?} for {part:?}");
     }
     // an earlier line goes first
-    assert_eq!(with("act=0,1/act=1,2000/nodes=3/node=s,2", "act=0,01/act=1,2000/nodes=3/node=s,1"), Err(refusal(2, 4)));
-    assert_eq!(with("act=1,2000/nodes=3/node=s,2", "act=1,2001/nodes=3/node=s,1"), Err(refusal(3, 5)));
+    assert_eq!(with("act=0,1/act=1,20000/nodes=3/node=s,2", "act=0,01/act=1,1/nodes=3/node=s,1"), Err(refusal(2, 4)));
+    assert_eq!(with("act=1,20000/nodes=3/node=s,2", "act=1,20001/nodes=3/node=s,1"), Err(refusal(3, 5)));
     // activity 1 is no group
     assert_eq!(with("nodes=3/node=s,2/node=a,0/node=a,1", "nodes=1/node=a,1"), Ok(1));
 }

@@ -20,7 +20,7 @@ fn plan(resources: u64, activities: &[(u64, u64)], nodes: &str) -> Plan {
 }
 
 /// The rows, which are within a cap exactly if they are no more than it, and how many active sessions each variant has.
-fn listed(plan: &Plan) -> (Vec<Vec<u16>>, Vec<u64>) {
+fn listed(plan: &Plan) -> (Vec<Vec<u32>>, Vec<u64>) {
     let Rows::All(found, active) = rows(plan, u64::MAX, u64::MAX) else { unreachable!() };
     let count = found.len() as u64;
     assert!(matches!(rows(plan, count, u64::MAX), Rows::All(same, _) if same == found));
@@ -103,7 +103,7 @@ fn term(random: &mut Random, activities: &[usize], depth: u64) -> Term {
 }
 
 /// Every pair whose session is not among those of a lower variant with the same activities.
-fn by_definition(plan: &Plan) -> Vec<Vec<u16>> {
+fn by_definition(plan: &Plan) -> Vec<Vec<u32>> {
     let projects: Vec<Project> =
         plan.term.variants().iter().map(|chosen| Project::new(&plan.activities, chosen)).collect();
     let mut rows = vec![];

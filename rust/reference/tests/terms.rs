@@ -71,7 +71,7 @@ fn nodes_read_back() {
 #[test]
 fn written_variants_read_back() {
     let mut random = Random(4);
-    let activities = vec![Activity { resource: 2, duration: 2000 }; 24];
+    let activities = vec![Activity { resource: 2, duration: 20_000 }; 24];
     let mut seen = 0;
     for _ in 0..5000 {
         let Ok(plan) = parse(&text(3, &activities, &term(&mut random, 3, 24))) else {

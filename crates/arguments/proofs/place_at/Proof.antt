@@ -20,9 +20,6 @@ returns c =
     let args = c .before .before .args in
     sym (elim-false (eqb (getD (args .timetable .starts) (args .activity) 0) mark) _ _ (ne-eqb _ _ (c .if1 .taken)))
 
-cast-starts : tie.Need-cast-starts
-cast-starts c = search needs
-
 mul-starts : tie.Need-mul-starts
 mul-starts c = search needs
 
@@ -37,4 +34,4 @@ returns-2 c =
 pub place-at-spec : {M : Type 1} → statement M
 place-at-spec =
     tie.close
-    (tie.spec mul-if1 array-read-if1 returns cast-starts mul-starts array-write-starts returns-2)
+    (tie.spec mul-if1 array-read-if1 returns mul-starts array-write-starts returns-2)

@@ -3,7 +3,7 @@ use mathlib.Core.Path.{sym, ap₂, _∙_}
 use Prim.Native.Nat.{_+_}
 use native.Mathlib.Omega.{arith}
 use borrow.Author.Needs.{needs}
-use Rattle.candidates.proofs.Folds.{soon-fits, choice-elsewhere, choice-late, choice-some}
+use Rattle.candidates.proofs.Folds.{soon-early, choice-elsewhere, choice-late, choice-some}
 use Rattle.candidates.proofs.choice_end.Statement.{statement}
 use Rattle.candidates.proofs.choice_end.Tie as tie
 
@@ -43,7 +43,7 @@ duration-of-requires c κs = search needs
 add-result : tie.Need-add-result
 add-result c =
     let at = c .before .before .before .before .before .before .before .before in
-    let soon = soon-fits (at .args .table .now) (at .args .work .now) (at .args .i) (at .pre .1) in
+    let soon = soon-early (at .args .table .now) (at .args .work .now) (at .args .i) (at .pre .1) in
     record {
       fits =
           omega (

@@ -1,7 +1,7 @@
 -- `earliest_end` meets its contract: the sum fits, since every time does.
 use native.Mathlib.Omega.{arith}
 use borrow.Author.Needs.{needs}
-use Rattle.candidates.proofs.Folds.{soon-fits}
+use Rattle.candidates.proofs.Folds.{soon-early}
 use Rattle.candidates.proofs.earliest_end.Statement.{statement}
 use Rattle.candidates.proofs.earliest_end.Tie as tie
 
@@ -20,7 +20,7 @@ duration-of-requires c κs = search needs
 add-result : tie.Need-add-result
 add-result c =
     let at = c .before .before .before in
-    let soon = soon-fits (at .args .table .now) (at .args .work .now) (at .args .i) (at .pre .1) in
+    let soon = soon-early (at .args .table .now) (at .args .work .now) (at .args .i) (at .pre .1) in
     record {
       fits =
           omega (

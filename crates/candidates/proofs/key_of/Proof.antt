@@ -1,7 +1,7 @@
 -- `key_of` meets its contract: the sum fits, since every time does.
 use native.Mathlib.Omega.{arith}
 use borrow.Author.Needs.{needs}
-use Rattle.candidates.proofs.Folds.{soon-fits}
+use Rattle.candidates.proofs.Folds.{soon-early}
 use Rattle.candidates.proofs.key_of.Statement.{statement}
 use Rattle.candidates.proofs.key_of.Tie as tie
 
@@ -15,7 +15,7 @@ mul-result c =
       fits = omega (
         arith,
         c .earliest-start .ensures,
-        soon-fits (a .table .now) (a .work .now) (a .i)
+        soon-early (a .table .now) (a .work .now) (a .i)
             (c .before .pre .1),
       );
     }
@@ -30,7 +30,7 @@ add-result : tie.Need-add-result
 add-result c =
     let at = c .before .before in
     let a = at .args in
-    let soon = soon-fits (a .table .now) (a .work .now) (a .i) (at .pre .1) in
+    let soon = soon-early (a .table .now) (a .work .now) (a .i) (at .pre .1) in
     record { fits = omega (arith, c .before .earliest-start .ensures, at .pre .1 .durations (a .i) (at .pre .0)) }
 
 returns : tie.Need-returns

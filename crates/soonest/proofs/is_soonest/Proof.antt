@@ -3,10 +3,10 @@ use Prim.Native.Nat.{_-_}
 use native.Mathlib.Omega.{arith}
 use borrow.Author.Needs.{needs}
 use mathlib.Core.Path.{sym}
-use Rattle.plan.specs.Limits.{cellValues}
+use Rattle.plan.specs.Limits.{latestPossible}
 use Rattle.candidates.specs.Tables.{problemIn}
 use Rattle.candidates.proofs.Columns.{duration-at}
-use Rattle.soonest.proofs.Waits.{Waits, waits-none, waits-more, clash-later, over-fits, soonest-never}
+use Rattle.soonest.proofs.Waits.{Waits, waits-none, waits-more, clash-later, over-early, soonest-never}
 use Rattle.soonest.proofs.Waits.{soonest-not, soonest-is}
 use Rattle.soonest.proofs.is_soonest.Statement.{statement}
 use Rattle.soonest.proofs.is_soonest.Tie as tie
@@ -15,7 +15,7 @@ abbrev Inv-loop : tie.InvT-loop
 Inv-loop table work before j duration t₀ t = Waits (problemIn table) work before j t
 
 abbrev μ-loop : tie.MeasureT-loop
-μ-loop table work before j duration t₀ t = cellValues - t
+μ-loop table work before j duration t₀ t = latestPossible - t
 
 mul-duration-of : tie.Need-mul-duration-of Inv-loop μ-loop
 mul-duration-of c = omega arith
@@ -42,7 +42,7 @@ add-if1 c =
     omega (
       arith,
       c .before .latest .ensures,
-      over-fits (problemIn (a .table .now)) (a .work .now) (a .before) (a .j) (start .pre .3 .times),
+      over-early (problemIn (a .table .now)) (a .work .now) (a .before) (a .j) (start .pre .3 .times),
       c .before .before .duration-of .ensures,
       start .pre .3 .durations (a .j) (start .pre .1),
     )
@@ -118,18 +118,6 @@ returns-2 c =
       duration-at (a .table .now) (a .j) (omega (arith, start .pre .1)),
     )))
 
-loop-less : tie.Need-loop-less Inv-loop μ-loop
-loop-less c =
-    let at = c .before .before .before .before in
-    let start = at .before .before .before .before .before .before in
-    let a = start .args in
-    omega (
-      arith,
-      at .loop .inv .low,
-      clash-later (problemIn (a .table .now)) (a .work .now) (a .before) (a .j) (at .loop .t) (at .loop .inv)
-          (c .before .clash-end .result) (c .before .clash-end .ensures) (omega (arith, c .if3 .left)),
-    )
-
 loop-again : tie.Need-loop-again Inv-loop μ-loop
 loop-again c =
     let at = c .before .before .before .before in
@@ -140,6 +128,18 @@ loop-again c =
     (c .before .clash-end .ensures)
     (start .pre .3 .times)
     (omega (arith, c .if3 .left))
+
+loop-less : tie.Need-loop-less Inv-loop μ-loop
+loop-less c =
+    let at = c .before .before .before .before in
+    let start = at .before .before .before .before .before .before in
+    let a = start .args in
+    omega (
+      arith,
+      loop-again c .low,
+      clash-later (problemIn (a .table .now)) (a .work .now) (a .before) (a .j) (at .loop .t) (at .loop .inv)
+          (c .before .clash-end .result) (c .before .clash-end .ensures) (omega (arith, c .if3 .left)),
+    )
 
 returns-3 : tie.Need-returns-3 Inv-loop μ-loop
 returns-3 c =

@@ -5,7 +5,7 @@ use Prim.Native.Nat.{ℕ, zero, suc, _≤_, _<_, _-_}
 use mir.Val.{Val}
 use denote.Shadow.{shadow}
 use denote.Array.{each}
-use denote.Struct.Field.{u16-field}
+use denote.Struct.Field.{u32-field}
 use native.Mathlib.Omega.{arith}
 use lib.ListN.{length, getD, set, replicate, length-map, List·getD-map}
 use lib.Seq.{paste, paste-zero}
@@ -13,7 +13,7 @@ use Rattle.timetable.specs.Mark.{places}
 use Rattle.tally.specs.Seen.{tallyOf, startsFrom, tallyCells}
 use Rattle.tally.proofs.Rows.{one-more, all-stored, tally-stored}
 use Rattle.tally.proofs.cells_of.Statement.{statement}
-use Rattle.plan.specs.Limits.{cellValues}
+use Rattle.plan.specs.Limits.{wordValues}
 use Rattle.tally.proofs.cells_of.Tie as tie
 
 abbrev Inv-loop : tie.InvT-loop
@@ -22,9 +22,9 @@ Inv-loop cells₀ starts i₀ cells i = (i ≤ places) × (cells ≡ paste cells
 abbrev μ-loop : tie.MeasureT-loop
 μ-loop cells₀ starts i₀ cells i = places - i
 
--- Each number of an array of 16-bit words is below cellValues.
-each-below : (xs : List ℕ) (us : List Val) → shadow (each ℕ (u16-field .row .own) xs us) → (i : ℕ) → i < length xs
-    → getD xs i 0 < cellValues
+-- Each number of an array of words is below wordValues.
+each-below : (xs : List ℕ) (us : List Val) → shadow (each ℕ (u32-field .row .own) xs us) → (i : ℕ) → i < length xs
+    → getD xs i 0 < wordValues
 each-below [] us h i l = absurd (omega arith)
 each-below (x ∷ xs) [] h i l = absurd h
 each-below (x ∷ xs) (u ∷ us) h zero l = omega (arith, h .0)
@@ -36,7 +36,7 @@ starts-sized start =
     sym (length-map (start .args .tally .best .starts) (λ v. v)) ∙ start .good .0 .1 .1 .1 .1 .1 .0 .1 .1 .0 .1 .0 .1
 
 starts-low : (start : tie.Start Inv-loop μ-loop) (i : ℕ) → i < places
-    → getD (start .args .tally .best .starts) i 0 < cellValues
+    → getD (start .args .tally .best .starts) i 0 < wordValues
 starts-low start i l =
     let s = start .args .tally .best .starts in
     let array = start .good .0 .1 .1 .1 .1 .1 .0 .1 .1 .0 in

@@ -1,15 +1,11 @@
 -- `start_of` meets its contract.
 use borrow.Author.Tests.{eq-eqb, ne-eqb}
 use Rattle.scan.specs.Model.{startOf}
-use borrow.Author.Needs.{needs}
 use Rattle.tally.proofs.start_of.Statement.{statement}
 use Rattle.tally.proofs.start_of.Tie as tie
 
 sub-result : tie.Need-sub-result
-sub-result c = c .before .pre .1 (c .if1 .left)
-
-cast-result : tie.Need-cast-result
-cast-result c = search needs
+sub-result c = c .before .pre (c .if1 .left)
 
 returns : tie.Need-returns
 unfolding startOf
@@ -20,4 +16,4 @@ unfolding startOf
 returns-2 c = rw (ne-eqb (c .before .args .end) 0 (c .if1 .left))
 
 pub start-of-spec : {M : Type 1} → statement M
-start-of-spec = tie.close (tie.spec sub-result cast-result returns returns-2)
+start-of-spec = tie.close (tie.spec sub-result returns returns-2)

@@ -29,9 +29,6 @@ cast-acts c = omega arith
 element-copy-out-row : tie.Need-element-copy-out-row Inv-loop μ-loop
 element-copy-out-row c = omega arith
 
-cast-row : tie.Need-cast-row Inv-loop μ-loop
-cast-row c = omega arith
-
 slice-write-row : tie.Need-slice-write-row Inv-loop μ-loop
 slice-write-row c = omega arith
 
@@ -73,10 +70,8 @@ start-of-requires : tie.Need-start-of-requires Inv-loop μ-loop
 start-of-requires c κs =
     let at = c .before .before .before .before in
     let start = at .before .before .before .before in
-    let few : at .loop .i < places = omega (arith, start .pre .1 .acts) in (
-      start .pre .0 .timed .times (at .loop .i),
-      λ ne. omega (arith, c .duration-of .ensures, start .pre .0 .ran (at .loop .i) few ne),
-    )
+    let few : at .loop .i < places = omega (arith, start .pre .1 .acts) in
+    λ ne. omega (arith, c .duration-of .ensures, start .pre .0 .ran (at .loop .i) few ne)
 
 add-row : tie.Need-add-row Inv-loop μ-loop
 add-row c = omega arith
@@ -132,7 +127,6 @@ write-row-spec =
     element-copy-out-acts
     cast-acts
     element-copy-out-row
-    cast-row
     slice-write-row
     loop-holds
     mul-start-of

@@ -12,9 +12,11 @@ static const char VARIANT_0[] =
     "plan=1\nres=3\nacts=5\nact=0,4\nact=1,2\nact=1,3\nact=2,5\nact=1,6\n"
     "nodes=5\nnode=s,2\nnode=a,0\nnode=p,2\nnode=a,3\nnode=a,4\n";
 
-enum { ABSENT = VIALBLUFF_ABSENT, CELLS = 20, BYTES = 200 };
+#define ABSENT VIALBLUFF_ABSENT
 
-static const uint16_t ROWS[] = {
+enum { CELLS = 20, BYTES = 200 };
+
+static const uint32_t ROWS[] = {
     0, 0,      ABSENT, ABSENT, 4, 4,
     1, ABSENT, 0,      2,      5, 5,
     1, ABSENT, 3,      0,      5, 5,
@@ -40,7 +42,7 @@ int main(void) {
   vialbluff_write(file, length, 2, text, sizeof text, out);
   assert(is(out, 9, 0, 0, 0));
 
-  uint16_t starts[VIALBLUFF_PLACES];
+  uint32_t starts[VIALBLUFF_PLACES];
   vialbluff_best(file, length, 1000000, starts, out);
   assert(is(out, 0, 0, 10, 3));
   assert(starts[0] == 0 && starts[1] == ABSENT && starts[2] == ABSENT && starts[3] == 4 && starts[4] == 4);
@@ -55,9 +57,9 @@ int main(void) {
   vialbluff_count(file, length, 2, out);
   assert(is(out, 7, 0, 0, 0));
 
-  uint16_t area[CELLS];
+  uint32_t area[CELLS];
   memset(area, 7, sizeof area);
-  const uint16_t untouched = area[0];
+  const uint32_t untouched = area[0];
   vialbluff_list(file, length, 3, area, 17, out);
   assert(is(out, 8, 18, 0, 0) && area[0] == untouched);
   vialbluff_list(file, length, 3, area, CELLS, out);

@@ -7,15 +7,16 @@
 #include <stdio.h>
 #include <string.h>
 
-enum { JOBS = 6, STEPS = 4, ACTS = JOBS * STEPS, WIDTH = ACTS + 1, DEVICES = 16, STACK = 640 * 1024, BYTES = 959 };
-enum { LONGER = 6, MERGED = 134596, CHOICES = ACTS / 2, PAIRS = 9, CAP = 150000, CELLS = MERGED * WIDTH };
+enum { JOBS = 6, STEPS = 4, ACTS = JOBS * STEPS, WIDTH = ACTS + 1, DEVICES = 16, STACK = 640 * 1024, BYTES = 983 };
+enum { LONGEST = 20000, DOUBLING = 6, MERGED = 134596, CAP = 150000, CELLS = MERGED * WIDTH };
+enum { CHOICES = ACTS / 2, PAIRS = 9 };
 
 static char shop[BYTES + 1];
 static char merge[BYTES + 1];
 static char nest[BYTES + 1];
 static char choices[BYTES + 1];
 static char orders[BYTES + 1];
-static uint16_t area[CELLS];
+static uint32_t area[CELLS];
 static uint8_t text[BYTES];
 
 static void line(char *plan, const char *form, int a, int b) {
@@ -36,15 +37,16 @@ static void write_shop(void) {
   for (int job = 0; job < JOBS; job++) write_sequence(shop, job * STEPS, (job + 1) * STEPS);
 }
 
-/* Two sequences side by side on one device, one of single ticks and one of doubling durations. A start in the first has
- * few values, each twice as far off as the one before: the sort of the rows parts them one by one, and so goes deep. */
+/* Two sequences side by side on one device, one of the longest durations and one of doubling ones. A start in the first
+ * has few values, each twice as far off as the one before: the sort of the rows parts them one by one, and so goes
+ * deep. */
 static void write_merge(void) {
-  const int singles = ACTS - LONGER;
+  const int first = ACTS - DOUBLING;
   line(merge, "plan=1\nres=1\nacts=%d\n", ACTS, 0);
-  for (int i = 0; i < ACTS; i++) line(merge, "act=0,%d\n", i < singles ? 1 : 1 << (i - singles), 0);
+  for (int i = 0; i < ACTS; i++) line(merge, "act=0,%d\n", i < first ? LONGEST : 1 << (i - first), 0);
   line(merge, "nodes=%d\nnode=p,2\n", 3 + ACTS, 0);
-  write_sequence(merge, 0, singles);
-  write_sequence(merge, singles, ACTS);
+  write_sequence(merge, 0, first);
+  write_sequence(merge, first, ACTS);
 }
 
 /* Each group in the one before: an activity and the rest, by turns in sequence and side by side. */
@@ -77,7 +79,7 @@ static void write_orders(void) {
   }
 }
 
-static int stands_before(const uint16_t *a, const uint16_t *b) {
+static int stands_before(const uint32_t *a, const uint32_t *b) {
   int i = 0;
   while (i < WIDTH && a[i] == b[i]) i++;
   return i < WIDTH && a[i] < b[i];
@@ -88,7 +90,7 @@ static void call_each(const char *plan, uint64_t variants, uint64_t sessions) {
   const uint8_t *file = (const uint8_t *)plan;
   const size_t length = strlen(plan);
   const uint64_t refused = sessions == 0 ? 7 : 0;
-  uint16_t starts[VIALBLUFF_PLACES] = {0};
+  uint32_t starts[VIALBLUFF_PLACES] = {0};
   uint64_t out[4];
   vialbluff_read(file, length, out);
   assert(out[0] == 0 && out[1] == ACTS && out[3] == variants);

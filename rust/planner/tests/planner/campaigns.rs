@@ -16,20 +16,20 @@ fn variants(text: &str) -> Answer<u64> {
     crate::planner().read(&file(text)).map(|size| size.variants)
 }
 
-fn best(text: &str, cap: u32) -> Answer<(Best, [u16; 24])> {
+fn best(text: &str, cap: u32) -> Answer<(Best, [u32; 24])> {
     let mut starts = [7; 24];
     let best = crate::planner().best(&file(text), cap, &mut starts)?;
     Ok((best, starts))
 }
 
 /// The rows that LIST gives.
-fn listed(text: &str) -> Vec<Vec<u16>> {
+fn listed(text: &str) -> Vec<Vec<u32>> {
     let (planner, file) = (crate::planner(), file(text));
     let count = planner.count(&file, u32::MAX).unwrap();
     let width = planner.read(&file).unwrap().activities as usize + 1;
     let mut area = vec![0; count as usize * width];
     assert_eq!(planner.list(&file, u32::MAX, &mut area), Ok(count));
-    area.chunks(width).map(<[u16]>::to_vec).collect()
+    area.chunks(width).map(<[u32]>::to_vec).collect()
 }
 
 /// Their makespans, rising.
@@ -59,7 +59,7 @@ fn dot_test_rows() {
 #[test]
 fn dot_test_variant_1() {
     let (planner, plan) = (crate::planner(), file(DOT_TEST));
-    let mut area = [0; 959];
+    let mut area = [0; 983];
     let length = planner.write(&plan, 1, &mut area).unwrap() as usize;
     let text = std::str::from_utf8(&area[..length]).unwrap().trim_end().replace('\n', "/");
     assert_eq!(makespans(&text), [11, 11]);
@@ -82,7 +82,9 @@ fn dot_test_cap_and_area() {
 fn durations() {
     let of = |act: &str| variants(&format!("plan=1/res=1/acts=1/act={act}/nodes=1/node=a,0"));
     assert_eq!(of("0,2000"), Ok(1));
-    assert_eq!(of("0,2001"), Err(refusal(3, 4)));
+    assert_eq!(of("0,2001"), Ok(1));
+    assert_eq!(of("0,20000"), Ok(1));
+    assert_eq!(of("0,20001"), Err(refusal(3, 4)));
     assert_eq!(of("0,0"), Err(refusal(3, 4)));
     assert_eq!(of("0,04"), Err(refusal(2, 4)));
 }
@@ -207,6 +209,85 @@ fn a_free_resource_waits() {
         /node=a,2/node=a,3";
     assert_eq!(makespans(text), [22, 31]);
     assert_eq!(best(text, 2).unwrap().0.makespan, 22);
+}
+
+/// An activity of one tick before, between or behind four of 20000 on its device.
+#[test]
+fn starts_past_65535() {
+    let text = "plan=1/res=1/acts=5/act=0,1/act=0,20000/act=0,20000/act=0,20000/act=0,20000/nodes=7/node=p,2/node=a,0\
+        /node=s,4/node=a,1/node=a,2/node=a,3/node=a,4";
+    let rows = [
+        [0, 0, 1, 20001, 40001, 60001],
+        [0, 20000, 0, 20001, 40001, 60001],
+        [0, 40000, 0, 20000, 40001, 60001],
+        [0, 60000, 0, 20000, 40000, 60001],
+        [0, 80000, 0, 20000, 40000, 60000],
+    ];
+    assert_eq!(listed(text), rows);
+    counted(text, 5);
+    let (found, starts) = best(text, 5).unwrap();
+    assert_eq!(found, Best { variant: 0, makespan: 80001, count: 5 });
+    assert_eq!(starts[..5], rows[0][1..]);
+}
+
+/// The longest makespan that a plan can have: 24 activities of 20000 ticks in sequence.
+#[test]
+fn longest_makespan() {
+    let leaves: String = (0..24).map(|i| format!("/node=a,{i}")).collect();
+    let text = format!("plan=1/res=1/acts=24{}/nodes=25/node=s,24{leaves}", "/act=0,20000".repeat(24));
+    let in_turn: [u32; 24] = std::array::from_fn(|i| 20000 * i as u32);
+    assert_eq!(listed(&text), [[&[0], &in_turn[..]].concat()]);
+    assert_eq!(best(&text, 1), Ok((Best { variant: 0, makespan: 480_000, count: 1 }, in_turn)));
+}
+
+/// CHECK of variant 0 with these starts, and the mark behind them.
+fn is_feasible(text: &str, starts: &[u32]) -> bool {
+    let mut timetable = [MARK; 24];
+    timetable[..starts.len()].copy_from_slice(starts);
+    crate::planner().check(&file(text), 0, &timetable).unwrap()
+}
+
+/// 65535 and 4294967294 are starts like others, 4294967295 is none.
+#[test]
+fn starts_and_the_mark() {
+    for starts in
+        [[0, MARK, MARK, 4, 65535], [65535, MARK, MARK, 65539, 65539], [4294967290, MARK, MARK, 4294967294, 4294967294]]
+    {
+        assert!(is_feasible(DOT_TEST, &starts), "{starts:?}");
+    }
+    for starts in [
+        [65535, MARK, MARK, 65538, 65539],
+        [0, 65535, 65535, 4, 4],
+        [0, MARK, 4294967294, 4, 4],
+        [0, MARK, MARK, 4, MARK],
+        [4294967291, MARK, MARK, MARK, MARK],
+    ] {
+        assert!(!is_feasible(DOT_TEST, &starts), "{starts:?}");
+    }
+    assert!(!is_feasible(DOT_TEST, &[0, MARK, MARK, 4, 4, 65535]));
+}
+
+/// Two activities of 20000 ticks on one device. An end of 2^32 or more is past every start.
+#[test]
+fn ends_past_every_start() {
+    let last = 4294967294;
+    let text =
+        |letter: char| format!("plan=1/res=1/acts=2/act=0,20000/act=0,20000/nodes=3/node={letter},2/node=a,0/node=a,1");
+    for (starts, in_sequence, side_by_side) in [
+        ([0, last], true, true),
+        ([last, 0], false, true),
+        ([last, 19998], false, true),
+        ([last - 20000, last], true, true),
+        ([last - 19999, last], false, false),
+        ([last - 19998, last], false, false),
+        ([last - 19998, 0], false, true),
+        ([last - 1, last], false, false),
+        ([last, last - 1], false, false),
+        ([last, last], false, false),
+    ] {
+        assert_eq!(is_feasible(&text('s'), &starts), in_sequence, "{starts:?}");
+        assert_eq!(is_feasible(&text('p'), &starts), side_by_side, "{starts:?}");
+    }
 }
 
 /// Document 000, Example 2.

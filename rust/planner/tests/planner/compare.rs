@@ -3,7 +3,7 @@
 use calls::{Answer, Best, Planner, Refusal, Timetable, MARK, PLACES};
 use reference::file::{parse, Plan};
 use reference::insertion::some_active_schedule;
-use reference::project::Project;
+use reference::project::{Project, Schedule};
 use reference::random::Random;
 use reference::rows::{row_of, rows, Rows};
 use reference::{first_shortest, is_session, refusal};
@@ -30,17 +30,20 @@ pub struct Listed {
     pub pairs: u64,
     /// Does some variant have sessions of lower variants and sessions of its own?
     pub mixed: bool,
+    /// Is some start past 65535?
+    pub late: bool,
 }
 
 impl Listed {
     /// Of the rows, and how many active sessions each variant has.
-    fn new(rows: &[Vec<u16>], active: &[u64]) -> Listed {
+    fn new(rows: &[Vec<u32>], active: &[u64]) -> Listed {
         let mut own = vec![0; active.len()];
-        rows.iter().for_each(|row| own[usize::from(row[0])] += 1);
+        rows.iter().for_each(|row| own[row[0] as usize] += 1);
         Listed {
             sessions: rows.len() as u64,
             pairs: active.iter().sum(),
             mixed: own.iter().zip(active).any(|(own, all)| 0 < *own && own < all),
+            late: rows.concat().iter().any(|&cell| 65535 < cell && cell < MARK),
         }
     }
 }
@@ -123,15 +126,15 @@ fn every_call_refuses(planner: &impl Planner, file: &[u8], refused: Refusal, ran
 fn refuses_cap(planner: &impl Planner, file: &[u8], refused: Refusal, cap: u32, random: &mut Random) -> Difference {
     same("count", Err(refused), planner.count(file, cap))?;
     let length = random.pick(&[0, 5, 300]);
-    let mut area = Area::new(random, length, |n| n as u16);
+    let mut area = Area::new(random, length, |n| n as u32);
     same("list", Err(refused), planner.list(file, cap, area.lent()))?;
     area.untouched("list", 0)?;
-    let mut starts = Area::new(random, PLACES, |n| n as u16);
+    let mut starts = Area::new(random, PLACES, |n| n as u32);
     same("best", Err(refused), best(planner, file, cap, &mut starts))?;
     starts.untouched("best", 0)
 }
 
-fn best(planner: &impl Planner, file: &[u8], cap: u32, starts: &mut Area<u16>) -> Answer<Best> {
+fn best(planner: &impl Planner, file: &[u8], cap: u32, starts: &mut Area<u32>) -> Answer<Best> {
     planner.best(file, cap, starts.lent().try_into().unwrap())
 }
 
@@ -173,8 +176,21 @@ fn compare_write(planner: &impl Planner, file: &[u8], plan: &Plan, random: &mut 
 }
 
 fn any_timetable(random: &mut Random) -> Timetable {
-    let most = random.pick(&[1, 4, 100, 65536]);
-    std::array::from_fn(|_| if random.once_in(2) { MARK } else { random.below(most) as u16 })
+    let most = random.pick(&[1, 4, 100, 1 << 16, 1 << 32]);
+    std::array::from_fn(|_| if random.once_in(2) { MARK } else { random.below(most) as u32 })
+}
+
+/// Some sessions begin later: anywhere, or so late that the last start is next to the mark or at it, or so late that the
+/// starts after the first go on from 0.
+fn delay(random: &mut Random, starts: &mut Schedule) {
+    let (mark, latest) = (u64::from(MARK), *starts.iter().max().unwrap());
+    let shift = match random.below(6) {
+        0 => random.below(mark - latest),
+        1 => mark - latest - random.below(6),
+        2 => mark - random.between(1, 6),
+        _ => 0,
+    };
+    starts.iter_mut().for_each(|start| *start = (*start + shift) % (1 << 32));
 }
 
 /// A timetable that is, or nearly is, a feasible schedule of the variant.
@@ -182,29 +198,26 @@ fn likely_timetable(random: &mut Random, plan: &Plan, variant: u64, project: &Pr
     let mut starts = some_active_schedule(project, random);
     match random.below(6) {
         0 => {
-            let shift = random.below(65535 - 48000);
-            starts.iter_mut().for_each(|start| *start += shift);
-        }
-        1 => {
             let at = random.index(starts.len());
             starts[at] += random.between(1, 5);
         }
-        2 => {
+        1 => {
             let at = random.index(starts.len());
             starts[at] = starts[at].saturating_sub(random.between(1, 5));
         }
-        3 => {
+        2 => {
             let horizon = project.total_duration();
             starts.iter_mut().for_each(|start| *start = random.below(horizon));
         }
         _ => {}
     }
+    delay(random, &mut starts);
     let mut timetable = [MARK; PLACES];
     let row = row_of(plan, variant, project, &starts);
     timetable[..row.len() - 1].copy_from_slice(&row[1..]);
     match random.below(10) {
         0 => timetable[random.below(24) as usize] = MARK,
-        1 => timetable[random.below(24) as usize] = random.pick(&[0, 100, 65534]),
+        1 => timetable[random.below(24) as usize] = random.pick(&[0, 100, 65534, 65535, 4294967294]),
         2 => timetable[23] = 0,
         _ => {}
     }
@@ -258,11 +271,11 @@ fn compare_sessions(planner: &impl Planner, file: &[u8], plan: &Plan, random: &m
     }
 }
 
-fn compare_list(planner: &impl Planner, file: &[u8], cap: u32, rows: &[Vec<u16>], random: &mut Random) -> Difference {
+fn compare_list(planner: &impl Planner, file: &[u8], cap: u32, rows: &[Vec<u32>], random: &mut Random) -> Difference {
     let cells = rows.concat();
     let needed = cells.len();
     for length in lengths(random, needed) {
-        let mut area = Area::new(random, length, |n| n as u16);
+        let mut area = Area::new(random, length, |n| n as u32);
         let got = planner.list(file, cap, area.lent());
         if length < needed {
             same("list", Err(refusal(8, needed as u64)), got)?;
@@ -281,10 +294,10 @@ fn compare_best(
     file: &[u8],
     cap: u32,
     plan: &Plan,
-    rows: &[Vec<u16>],
+    rows: &[Vec<u32>],
     random: &mut Random,
 ) -> Difference {
-    let mut starts = Area::new(random, PLACES, |n| n as u16);
+    let mut starts = Area::new(random, PLACES, |n| n as u32);
     let found = best(planner, file, cap, &mut starts);
     starts.untouched("best", PLACES)?;
     let (expected, timetable) = first_shortest(plan, rows);

@@ -29,7 +29,7 @@ fn run(numbers: impl Iterator<Item = u64>) -> Tally {
             continue;
         }
         add("accepted", 1);
-        add("accepted, 959 bytes", u64::from(file.len() == 959));
+        add("accepted, 983 bytes", u64::from(file.len() == 983));
         match seen.sessions {
             Sessions::OverCap => add("accepted, more sessions than were to be listed", 1),
             Sessions::Open => add("accepted, sessions left open", 1),
@@ -38,6 +38,7 @@ fn run(numbers: impl Iterator<Item = u64>) -> Tally {
                 add("accepted, sessions listed, 4096 variants", u64::from(seen.variants == 4096));
                 add("accepted, sessions listed, fewer than pairs", u64::from(listed.sessions < listed.pairs));
                 add("accepted, sessions listed, part of a variant's under lower ones", u64::from(listed.mixed));
+                add("accepted, sessions listed, a start past 65535", u64::from(listed.late));
                 add("sessions", listed.sessions);
                 add("pairs of a variant and a session", listed.pairs);
             }
@@ -65,8 +66,9 @@ fn differential() {
         assert!([1, 2, 3, 4, 5, 6, 10].iter().all(|number| all[&format!("refused {number}")] > plans / 200));
         assert!(all["accepted, sessions listed"] > plans / 4);
         assert!(all["accepted, sessions left open"] < plans / 100);
-        assert!(all["accepted, 959 bytes"] > 100 && all["accepted, sessions listed, 4096 variants"] > 10);
+        assert!(all["accepted, 983 bytes"] > 100 && all["accepted, sessions listed, 4096 variants"] > 10);
         assert!(all["accepted, sessions listed, fewer than pairs"] > plans / 10);
         assert!(all["accepted, sessions listed, part of a variant's under lower ones"] > plans / 50);
+        assert!(all["accepted, sessions listed, a start past 65535"] > plans / 100);
     }
 }

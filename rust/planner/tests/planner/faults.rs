@@ -19,6 +19,7 @@ enum Fault {
     ReadTakesMissingNewline,
     ReadTakesLeadingZero,
     ReadTakesGroupOfOne,
+    ReadTakes20001,
     GroupOfOneAsRange,
     FigureOffByOne,
     VariantsReversed,
@@ -27,6 +28,8 @@ enum Fault {
     WriteTouchesOnRefusal,
     CheckForgetsResources,
     CheckForgetsMarks,
+    CheckMarks65535,
+    CheckEndsWrap,
     CheckWantsActive,
     CountInvented,
     RefusesCapUnseen,
@@ -36,6 +39,8 @@ enum Fault {
     ListExchangesTwoRows,
     ListForgetsVariants,
     ListFromLastActivity,
+    ListMarks65535,
+    ListCutsStarts,
     FirstVariantForAll,
     NothingWaits,
     SlidesOnly,
@@ -49,6 +54,8 @@ enum Fault {
     BestOfFirstVariant,
     BestByLongestChain,
     BestLeavesMarks,
+    BestMarks65535,
+    BestCutsStarts,
     BestIsLastShortest,
     BestForgetsVariants,
     BestCountsPairs,
@@ -72,13 +79,13 @@ impl Faulty {
     }
 
     /// The rows of the plan with the fault in them.
-    fn rows(&self, file: &[u8], cap: u32) -> Answer<(Plan, Vec<Vec<u16>>)> {
+    fn rows(&self, file: &[u8], cap: u32) -> Answer<(Plan, Vec<Vec<u32>>)> {
         let count = Reference.count(file, cap)?;
         let plan = parse(file).unwrap();
         let width = plan.activities.len() + 1;
         let mut area = vec![0; count as usize * width];
         Reference.list(file, cap, &mut area)?;
-        let mut rows: Vec<Vec<u16>> = area.chunks(width).map(<[u16]>::to_vec).collect();
+        let mut rows: Vec<Vec<u32>> = area.chunks(width).map(<[u32]>::to_vec).collect();
         if self.has(Fault::FirstVariantForAll) {
             let first: Vec<_> = rows.iter().filter(|row| row[0] == 0).cloned().collect();
             rows.iter_mut().enumerate().for_each(|(i, row)| row[1..].copy_from_slice(&first[i % first.len()][1..]));
@@ -102,7 +109,7 @@ impl Faulty {
     }
 
     /// The rows, where it is by another rule that one is left out.
-    fn shared_rows(&self, plan: &Plan) -> Vec<Vec<u16>> {
+    fn shared_rows(&self, plan: &Plan) -> Vec<Vec<u32>> {
         let projects = projects(plan);
         let found: Vec<Vec<Schedule>> = projects.iter().map(active).collect();
         let same_activities = |u: usize, v: usize| projects[u].numbers == projects[v].numbers;
@@ -153,7 +160,7 @@ fn pairs(plan: &Plan) -> u64 {
 }
 
 /// Does an activity wait although its predecessors are done and its resource is free on a tick before its start?
-fn waits(plan: &Plan, row: &[u16]) -> bool {
+fn waits(plan: &Plan, row: &[u32]) -> bool {
     let project = Project::new(&plan.activities, &plan.term.variant(u64::from(row[0])));
     let starts: Vec<u64> = project.numbers.iter().map(|&i| u64::from(row[i + 1])).collect();
     let all = || 0..project.size();
@@ -162,12 +169,14 @@ fn waits(plan: &Plan, row: &[u16]) -> bool {
         let busy = |t: u64| {
             all().any(|i| project.resource[i] == project.resource[j] && starts[i] <= t && t < project.end(&starts, i))
         };
-        (ready..starts[j]).any(|t| !busy(t))
+        // a resource is first free at an end
+        let ends = all().map(|i| project.end(&starts, i));
+        ends.chain([ready]).any(|t| (ready..starts[j]).contains(&t) && !busy(t))
     })
 }
 
 /// A row for each schedule in which no activity can slide, though one may fit into an earlier gap.
-fn earliest_rows(plan: &Plan) -> Vec<Vec<u16>> {
+fn earliest_rows(plan: &Plan) -> Vec<Vec<u32>> {
     let mut rows = vec![];
     for variant in 0..plan.term.variant_count() {
         let project = Project::new(&plan.activities, &plan.term.variant(variant));
@@ -192,6 +201,22 @@ fn without_node(file: &[u8], line: u64) -> Vec<u8> {
     lines.concat().into_bytes()
 }
 
+/// 65535 is the mark, and the mark a start.
+fn exchange_marks(cells: &mut [u32]) {
+    for cell in cells {
+        *cell = match *cell {
+            65535 => MARK,
+            MARK => 65535,
+            start => start,
+        };
+    }
+}
+
+/// Starts keep their low 16 bits.
+fn cut_starts(cells: &mut [u32]) {
+    cells.iter_mut().filter(|cell| **cell != MARK).for_each(|cell| *cell %= 1 << 16);
+}
+
 impl Planner for Faulty {
     fn read(&self, file: &[u8]) -> Answer<Size> {
         if self.has(Fault::ReadRefusesAll) {
@@ -202,6 +227,10 @@ impl Planner for Faulty {
         }
         if self.has(Fault::ReadTakesLeadingZero) {
             let text = String::from_utf8_lossy(file).replace(",0", ",").replace(",\n", ",0\n").replace(",,", ",0,");
+            return Reference.read(file).or(Reference.read(text.as_bytes()).or(Reference.read(file)));
+        }
+        if self.has(Fault::ReadTakes20001) {
+            let text = String::from_utf8_lossy(file).replace(",20001\n", ",20000\n");
             return Reference.read(file).or(Reference.read(text.as_bytes()).or(Reference.read(file)));
         }
         let answer = Reference.read(file);
@@ -249,18 +278,29 @@ impl Planner for Faulty {
                 (0..24).filter(absent).for_each(|i| starts[i] = MARK);
             }
         }
+        if self.has(Fault::CheckMarks65535) {
+            exchange_marks(&mut starts);
+        }
         let yes = Reference.check(file, variant, &starts)?;
         let project = Project::new(&plan.activities, &plan.variant(variant)?);
         let present: Vec<u64> = project.numbers.iter().map(|&i| u64::from(starts[i])).collect();
-        if self.has(Fault::CheckWantsActive) && yes {
-            return Ok(project.is_settled(&present));
+        let marked = (0..24).all(|i| (starts[i] == MARK) != project.numbers.contains(&i));
+        let wrap = if self.has(Fault::CheckEndsWrap) { 1 << 32 } else { u64::MAX };
+        let end = |i: usize| project.end(&present, i) % wrap;
+        let contend = |i: usize, j: usize| i != j && project.resource[i] == project.resource[j];
+        let agree = |i: usize, j: usize| {
+            let i_first = end(i) <= present[j];
+            let apart = i_first || end(j) <= present[i] || !contend(i, j);
+            (i_first || !project.before[i][j]) && (apart || self.has(Fault::CheckForgetsResources))
+        };
+        let all = || 0..project.size();
+        match self.0 {
+            Fault::CheckWantsActive => Ok(yes && project.is_settled(&present)),
+            Fault::CheckForgetsResources | Fault::CheckEndsWrap => {
+                Ok(marked && all().all(|i| all().all(|j| agree(i, j))))
+            }
+            _ => Ok(yes),
         }
-        if self.has(Fault::CheckForgetsResources) && starts.iter().filter(|&&s| s != MARK).count() == project.size() {
-            let in_order = |i: usize, j: usize| !project.before[i][j] || project.end(&present, i) <= present[j];
-            let all = 0..project.size();
-            return Ok(all.clone().all(|i| starts[project.numbers[i]] != MARK && all.clone().all(|j| in_order(i, j))));
-        }
-        Ok(yes)
     }
 
     fn count(&self, file: &[u8], cap: u32) -> Answer<u64> {
@@ -272,7 +312,7 @@ impl Planner for Faulty {
         }
     }
 
-    fn list(&self, file: &[u8], cap: u32, area: &mut [u16]) -> Answer<u64> {
+    fn list(&self, file: &[u8], cap: u32, area: &mut [u32]) -> Answer<u64> {
         let (_, mut rows) = self.rows(file, cap)?;
         match self.0 {
             Fault::ListExchangesTwoRows if rows.len() > 1 => rows.swap(0, 1),
@@ -284,7 +324,12 @@ impl Planner for Faulty {
             }),
             _ => {}
         }
-        let cells = rows.concat();
+        let mut cells = rows.concat();
+        match self.0 {
+            Fault::ListMarks65535 => exchange_marks(&mut cells),
+            Fault::ListCutsStarts => cut_starts(&mut cells),
+            _ => {}
+        }
         if area.len() < cells.len() {
             return Err(refusal(8, cells.len() as u64));
         }
@@ -304,11 +349,11 @@ impl Planner for Faulty {
             Fault::BestForgetsVariants => rows.sort_by_key(|row| row[1..].to_vec()),
             _ => {}
         }
-        let chain = |row: &[u16]| {
+        let chain = |row: &[u32]| {
             let project = Project::new(&plan.activities, &plan.term.variant(u64::from(row[0])));
             project.longest_chain()
         };
-        let key = |row: &&Vec<u16>| match self.0 {
+        let key = |row: &&Vec<u32>| match self.0 {
             Fault::BestOfFirstVariant => (u64::from(row[0]), makespan_of(&plan, row)),
             Fault::BestByLongestChain => (chain(row), makespan_of(&plan, row)),
             _ => (makespan_of(&plan, row), 0),
@@ -318,6 +363,11 @@ impl Planner for Faulty {
             starts.fill(MARK);
         }
         starts[..row.len() - 1].copy_from_slice(&row[1..]);
+        match self.0 {
+            Fault::BestMarks65535 => exchange_marks(starts),
+            Fault::BestCutsStarts => cut_starts(starts),
+            _ => {}
+        }
         let count = if self.has(Fault::BestCountsPairs) { pairs(&plan) } else { rows.len() as u64 };
         Ok(Best { variant: u64::from(row[0]), makespan: makespan_of(&plan, row), count })
     }
@@ -341,6 +391,7 @@ fn each_fault_is_found_out() {
         Fault::ReadTakesMissingNewline,
         Fault::ReadTakesLeadingZero,
         Fault::ReadTakesGroupOfOne,
+        Fault::ReadTakes20001,
         Fault::GroupOfOneAsRange,
         Fault::FigureOffByOne,
         Fault::VariantsReversed,
@@ -349,6 +400,8 @@ fn each_fault_is_found_out() {
         Fault::WriteTouchesOnRefusal,
         Fault::CheckForgetsResources,
         Fault::CheckForgetsMarks,
+        Fault::CheckMarks65535,
+        Fault::CheckEndsWrap,
         Fault::CheckWantsActive,
         Fault::CountInvented,
         Fault::RefusesCapUnseen,
@@ -358,6 +411,8 @@ fn each_fault_is_found_out() {
         Fault::ListExchangesTwoRows,
         Fault::ListForgetsVariants,
         Fault::ListFromLastActivity,
+        Fault::ListMarks65535,
+        Fault::ListCutsStarts,
         Fault::FirstVariantForAll,
         Fault::NothingWaits,
         Fault::SlidesOnly,
@@ -365,6 +420,8 @@ fn each_fault_is_found_out() {
         Fault::BestOfFirstVariant,
         Fault::BestByLongestChain,
         Fault::BestLeavesMarks,
+        Fault::BestMarks65535,
+        Fault::BestCutsStarts,
         Fault::BestIsLastShortest,
         Fault::BestForgetsVariants,
         Fault::BestCountsPairs,

@@ -104,13 +104,13 @@ fn tiny(random: &mut Random) -> Draft {
 
 fn middling(random: &mut Random) -> Draft {
     let (count, resources) = (random.between(4, 10), random.between(2, 6));
-    let longest = random.pick(&[2, 5, 20, 100, 2000]);
+    let longest = random.pick(&[2, 5, 20, 100, 20_000]);
     draft(random, count, resources, longest, 40, &['s', 's', 'p', 'p', 'x'])
 }
 
 fn large(random: &mut Random) -> Draft {
     let count = random.between(11, 24);
-    let (resources, longest) = (random.between(1, 16), random.pick(&[3, 50, 2000]));
+    let (resources, longest) = (random.between(1, 16), random.pick(&[3, 50, 20_000]));
     draft(random, count, resources, longest, 64, &['s', 's', 's', 'p', 'x'])
 }
 
@@ -159,7 +159,7 @@ fn turned(random: &mut Random, letter: char) -> char {
 /// Variants that have the same activities, in the same order or in others.
 fn shared(random: &mut Random) -> Draft {
     let (count, resources) = (random.between(2, 6), random.between(1, 3));
-    let longest = random.pick(&[1, 2, 5, 2000]);
+    let longest = random.pick(&[1, 2, 5, 20_000]);
     let activities = activities(random, count, resources, longest);
     loop {
         let numbers = shuffled(random, (0..count).collect());
@@ -183,7 +183,7 @@ fn groups_of_one(random: &mut Random) -> Draft {
 /// A p over x of some activities each, no activity under two of them, most x having a resource of their own.
 fn choices(random: &mut Random, sizes: &[(u64, u64)], repeat: bool) -> Draft {
     let mut nodes = vec![('p', sizes.len() as u64)];
-    let longest = random.pick(&[1, 4, 2000]);
+    let longest = random.pick(&[1, 4, 20_000]);
     let mut activities = activities(random, 24, 16, longest);
     let mut first = 0;
     for (own, &(children, distinct)) in sizes.iter().enumerate() {
@@ -234,7 +234,7 @@ fn too_many_variants(random: &mut Random) -> Draft {
     }
 }
 
-/// Files of 959 bytes, the longest that can be accepted: every value in two or four digits. Or of 958 or 960.
+/// Files of 983 bytes, the longest that can be accepted: every value in two or five digits. Or of 982 or 984.
 fn longest(random: &mut Random) -> Vec<u8> {
     let mut nodes = vec![];
     let mut groups = vec![random.between(1, 6)];
@@ -251,7 +251,7 @@ fn longest(random: &mut Random) -> Vec<u8> {
             groups.push(below);
         }
     }
-    let activities = (0..24).map(|_| (random.between(10, 15), random.between(1000, 2000))).collect();
+    let activities = (0..24).map(|_| (random.between(10, 15), random.between(10_000, 20_000))).collect();
     let mut text = Draft { resources: 16, activities, nodes }.text();
     match random.below(6) {
         0 => text.push(random.pick(b"\n0a")),
@@ -302,11 +302,19 @@ fn loose_nodes(random: &mut Random) -> Draft {
     draft
 }
 
-/// One or two values replaced by others at and past their limits.
+/// One or two values replaced by others at and past their limits, or a duration alone.
 fn out_of_range(random: &mut Random) -> Vec<u8> {
-    let mut text = if random.once_in(2) { tiny(random) } else { middling(random) }.text();
+    let small = [0, 1, 2, 15, 16, 17, 23, 24, 25, 63, 64, 65];
+    let great = [1999, 2000, 2001, 9999, 10000, 19999, 20000, 20001, 99999];
+    let mut draft = if random.once_in(2) { tiny(random) } else { middling(random) };
+    if random.once_in(3) {
+        let at = random.index(draft.activities.len());
+        draft.activities[at].1 = random.pick(&[0, 2001, 19999, 20000, 20001]);
+        return draft.text();
+    }
+    let mut text = draft.text();
     for _ in 0..random.between(1, 2) {
-        let value = random.pick(&[0, 1, 2, 15, 16, 17, 23, 24, 25, 63, 64, 65, 1999, 2000, 2001, 9999, 10000, 99999]);
+        let value = random.pick(&[&small[..], &great].concat());
         text = with_value(random, &text, &value.to_string());
     }
     text
@@ -317,7 +325,7 @@ fn any_lines(random: &mut Random) -> Vec<u8> {
     let mut text = String::new();
     for _ in 0..random.between(1, 20) {
         let value = random.pick(&[0, 1, 1, 2, 3, 16, 24, 64]);
-        let other = random.pick(&[0, 1, 2, 63, 2000]);
+        let other = random.pick(&[0, 1, 2, 63, 20_000]);
         text += &match random.below(6) {
             0 => format!("plan={value}\n"),
             1 => format!("res={value}\n"),
@@ -332,7 +340,7 @@ fn any_lines(random: &mut Random) -> Vec<u8> {
 }
 
 fn any_bytes(random: &mut Random) -> Vec<u8> {
-    let length = random.pick(&[0, 0, 1, 7, 100, 958, 959, 960, 961, 2000]);
+    let length = random.pick(&[0, 0, 1, 7, 100, 982, 983, 984, 985, 2000]);
     let from = random.pick(&[&b"plan=1\nres=acts=node=0123456789,aspx\n"[..], b"\n", b"\0", b"plan=1\n"]);
     if random.once_in(2) {
         (0..length).map(|_| random.number() as u8).collect()

@@ -12,6 +12,8 @@ use Rattle.enumerator.proofs.placing.+place.Lts-place as place-lts
 use Rattle.enumerator.proofs.placing.with_session.Reads as with-session-reads
 use Rattle.enumerator.proofs.placing.with_start.Reads as with-start-reads
 use Rattle.enumerator.proofs.session.fits.Reads as fits-reads
+use Rattle.enumerator.proofs.unit.multiples.Reads as multiples-reads
+use Rattle.std.proofs.num.wrapping_add_u32.Reads as wrapping-add-u32-reads
 use Rattle.enumerator.proofs.placing.+place.{statement}
 use Rattle.enumerator.proofs.placing.+place.Tie.{close}
 
@@ -25,10 +27,10 @@ abbrev place-below : ℕ → In 2 place-kinds.ps
 place-below t = and 2 place-kinds.ps (falls 2 place-kinds.ps _<_ μ-place t) place.Pre
 
 abbrev place-Inv-loop : place-lts.InvT-loop
-place-Inv-loop file relations duration i s area₀ starts t₀ tick₀ tick-end area t tick = length area ≡ length area₀
+place-Inv-loop file relations duration i s area₀ starts ticks t₀ tick₀ k₀ area t tick k = length area ≡ length area₀
 
 abbrev place-μ-loop : place-lts.MeasureT-loop
-place-μ-loop file relations duration i s area₀ starts t₀ tick₀ tick-end area t tick = tick-end - tick
+place-μ-loop file relations duration i s area₀ starts ticks t₀ tick₀ k₀ area t tick k = ticks - k
 
 pub +place-spec : {M : Type 1} → statement M
 +place-spec = close μ-place λ t. place-lts.spec (
@@ -36,6 +38,10 @@ pub +place-spec : {M : Type 1} → statement M
   with-session-reads.Learnt,
   place-below t,
   place.Post,
+  multiples-reads.Asked,
+  multiples-reads.Learnt,
+  wrapping-add-u32-reads.Asked,
+  wrapping-add-u32-reads.Learnt,
   fits-reads.Asked,
   fits-reads.Learnt,
   with-start-reads.Asked,
@@ -55,15 +61,16 @@ pub +place-spec : {M : Type 1} → statement M
     (λ c κs. search needs)
     (λ c. search needs)
     (λ c. search needs)
-    (λ c. search needs)
-    (λ c. search needs)
-    (λ c. search needs)
     (λ c κs. search needs)
     (λ c κs. search needs)
     (λ c. search needs)
     (λ c κs. search needs)
+    (λ c κs. search needs)
+    (λ c. search needs)
+    (λ c κs. search needs)
+    (λ c κs. search needs)
     (λ c. search needs)
     (λ c. search needs)
-    (λ c. ⊎-elim (λ w. search needs) (λ w. search needs) (c .if4 .came))
+    (λ c. ⊎-elim (λ w. search needs) (λ w. search needs) (c .before .if4 .came))
     (λ c. search needs)
     (λ c. search needs)

@@ -5,10 +5,10 @@ use Rattle.enumerator.proofs.session.movable.Statement.{statement}
 use Rattle.enumerator.proofs.session.movable.Tie as tie
 
 abbrev Inv-loop : tie.InvT-loop
-Inv-loop relations duration starts n i start tick₀ tick = Unit
+Inv-loop relations duration starts n i start unit tick₀ k₀ k-end tick k = Unit
 
 abbrev μ-loop : tie.MeasureT-loop
-μ-loop relations duration starts n i start tick₀ tick = start - tick
+μ-loop relations duration starts n i start unit tick₀ k₀ k-end tick k = k-end - k
 
 pub movable-spec : {M : Type 1} → statement M
 movable-spec =
@@ -17,9 +17,11 @@ movable-spec =
     Inv-loop
     μ-loop
     (λ c. search needs)
+    (λ c κs. search needs)
     (λ c. search needs)
     (λ c κs. search needs)
     (λ c. search needs)
+    (λ c κs. search needs)
     (λ c. search needs)
     (λ c. search needs)
     (λ c. search needs)
