@@ -1,4 +1,4 @@
--- Of the numbers below n that pass a test, one of least cost.
+-- Of the numbers below n that pass a test, the first one of least cost.
 use Prim.Native.Nat.{ℕ, zero, suc, _≤_, _<_}
 use native.Mathlib.Nat.{not-suc-le-zero}
 use native.Mathlib.Decide.{ℕ-discrete, decLe}
@@ -13,16 +13,23 @@ pub record First (n : ℕ) (test : ℕ → Bool) (cost : ℕ → ℕ) : Type 0 w
   pub below : who < n
   pub passes : test who ≡ true
   pub least : (i : ℕ) → i < n → test i ≡ true → cost who ≤ cost i
+  pub tie : (i : ℕ) → i < n → test i ≡ true → cost who ≡ cost i → who ≤ i
 
 module _ (test : ℕ → Bool) (cost : ℕ → ℕ) where
   -- n itself passes, and costs less than all below.
-  last : (n : ℕ) → test n ≡ true → ((i : ℕ) → i < n → test i ≡ true → cost n ≤ cost i) → First (suc n) test cost
+  last : (n : ℕ) → test n ≡ true → ((i : ℕ) → i < n → test i ≡ true → cost n < cost i) → First (suc n) test cost
   last n y low =
       record {
         who = n;
         below = omega arith;
         passes = y;
-        least = λ i l e. by-cases (ℕ-discrete i n) (λ q. omega (arith, ap cost q)) (λ ne. low i (omega arith) e);
+        least =
+            λ i l e.
+            by-cases (ℕ-discrete i n) (λ q. omega (arith, ap cost q)) (λ ne. omega (arith, low i (omega arith) e));
+        tie =
+            λ i l e c.
+            by-cases (ℕ-discrete i n) (λ q. omega arith)
+            (λ ne. absurd (omega (arith, low i (omega arith) e)));
       }
 
   -- One below n costs no more than n.
@@ -38,6 +45,9 @@ module _ (test : ℕ → Bool) (cost : ℕ → ℕ) where
             (ℕ-discrete i n)
             (λ q. omega (arith, ap cost q, low (sym (ap test q) ∙ e)))
             (λ ne. f .least i (omega arith) e);
+        tie =
+            λ i l e c.
+            by-cases (ℕ-discrete i n) (λ q. omega (arith, f .below)) (λ ne. f .tie i (omega arith) e c);
       }
 
   look : (n : ℕ) → First n test cost ⊎ ((i : ℕ) → i < n → test i ≡ false)

@@ -1,32 +1,25 @@
--- A state of the search: the activities that are frozen so far and their starts. Both are plain functions, of which
--- only what they say of the project's activities counts.
+-- The states of the search on a bench. There an activity's earliest start is the latest end of what precedes it and of
+-- what is frozen on its resource, and whatever extends a state puts the others on a resource behind those frozen there.
 use Prim.Native.Nat.{ℕ, _≤_, _<_, max}
+use native.Mathlib.Decide.{ℕ-discrete}
 use native.Mathlib.Omega.{arith}
-use mathlib.Core.Bool.{Bool, true, false, not, _&&_}
-use mathlib.Core.Path.{_≡_, refl, ap}
-use mathlib.Core.Logic.{_⊎_, inl, inr, ⊎-elim}
+use mathlib.Core.Bool.{Bool, true, false, _&&_}
+use mathlib.Core.Path.{_≡_, refl, sym, _∙_}
+use mathlib.Core.Logic.{by-cases}
 use lib.Dec.{eqb}
-use borrow.Author.Tests.{eqb-true, eq-eqb, not-true}
-use Rattle.base.specs.Below.{everyBelow, _implies_}
+use borrow.Author.Tests.{eqb-true, eq-eqb}
 use Rattle.schedule.specs.Project.{Project}
-use Rattle.schedule.specs.Schedule.{Starts, endOf, latestEnd, moved}
-use Rattle.base.proofs.Bools.{by-bool, true-not-false, both, and-left, and-right}
-use Rattle.base.proofs.Below.{implies-elim, implies-fails, every-at, every-fails}
-use Rattle.schedule.proofs.Load.{Has, among, end-le, ends-least}
+use Rattle.schedule.specs.Schedule.{Starts, endOf, load, latestEnd, moved}
+use Rattle.base.proofs.Bools.{true-not-false, both, and-left, and-right}
+use Rattle.schedule.proofs.Load.{Has, among, load-none, end-le, ends-least, moved-same, moved-other}
 use Rattle.schedule.proofs.Reflect.{Feasible, Active}
 use Rattle.schedule.proofs.Agree.{Agree, part-has}
-use Rattle.schedule.proofs.OneUnit.{Bench, feasible-in-words}
-use Rattle.schedule.specs.Words.{InWords}
-use Rattle.branching.proofs.First.{First, first-of}
-
-abbrev pub Frozen : Project → (ℕ → Bool) → ℕ → Type 0
-Frozen p F i = Has (among p F) i
-
--- Not frozen, and all that precedes it is.
-pub record Open (p : Project) (F : ℕ → Bool) (i : ℕ) : Type 0 where
-  pub has : Has p i
-  pub waits : F i ≡ false
-  pub freed : (k : ℕ) → Has p k → p .precedes k i ≡ true → F k ≡ true
+use Rattle.schedule.proofs.OneUnit.{Bench, takes-at-most, takes-only-own}
+pub use Rattle.branching.proofs.Room.{Frozen, Open, Ranked, some-open}
+use Rattle.branching.proofs.Room.{Room, Soonest, frozen-other, adding, adding-new, adding-old}
+use Rattle.branching.proofs.Node as node
+use Rattle.branching.proofs.Node.{Node}
+use Rattle.branching.proofs.Under.{Components, Under}
 
 -- The latest end of the frozen ones that precede i, and of those on resource r; 0 where there is none.
 abbrev pub ready : Project → (ℕ → Bool) → Starts → ℕ → ℕ
@@ -106,20 +99,21 @@ part-bench p resource F w b =
           };
     }
 
--- A feasible schedule that starts the frozen ones as S does.
-pub record Extends (p : Project) (F : ℕ → Bool) (S T : Starts) : Type 0 where
-  pub feasible : Feasible p T
+-- A feasible schedule of a closed set that starts the frozen ones as S does.
+pub record Extends (p : Project) (F : ℕ → Bool) (S : Starts) (G : ℕ → Bool) (T : Starts) : Type 0 where
+  pub within : (i : ℕ) → i < p .size → G i ≡ true → p .present i ≡ true
+  pub closed : (i j : ℕ) → Has p i → Frozen p G j → p .precedes i j ≡ true → G i ≡ true
+  pub larger : (i : ℕ) → Frozen p F i → G i ≡ true
+  pub feasible : Feasible (among p G) T
   pub agrees : Agree (among p F) S T
 
--- What is frozen is closed under precedence and feasible by itself. In every schedule that extends it, the others on
--- a resource come after those frozen there, and no frozen one can start sooner.
+-- A node, of which in whatever extends it the others on a resource come after those frozen there.
 pub record Partial (p : Project) (resource : ℕ → ℕ) (F : ℕ → Bool) (S : Starts) : Type 0 where
   pub inside : (i : ℕ) → i < p .size → F i ≡ true → p .present i ≡ true
   pub closed : (i j : ℕ) → Has p i → Frozen p F j → p .precedes i j ≡ true → F i ≡ true
-  pub fits : Feasible (among p F) S
-  pub behind : (T : Starts) → Extends p F S T → (i k : ℕ) → Frozen p F i → Has p k → F k ≡ false
-      → resource i ≡ resource k → endOf p S i ≤ T k
-  pub stuck : (T : Starts) → Extends p F S T → (f t : ℕ) → Frozen p F f → t < S f → Feasible p (moved T f t) → ⊥
+  pub is-active : Active (among p F) S
+  pub behind : (G : ℕ → Bool) (T : Starts) → Extends p F S G T → (i k : ℕ) → Frozen p F i → Frozen p G k
+      → F k ≡ false → resource i ≡ resource k → endOf p S i ≤ T k
 
 -- The root: nothing is frozen.
 
@@ -134,84 +128,136 @@ root p resource S b =
     record {
       inside = λ i l y. true-not-false y refl;
       closed = λ i j h f o. none-frozen p j f;
-      fits =
-          feasible-in-words (among p nothing) resource S
-          (part-bench p resource nothing (λ i l y. true-not-false y refl) b) .1
-          (record { after = λ i j f g o. none-frozen p i f; apart = λ i j f g ne e. none-frozen p i f });
-      behind = λ T x i k g h w e. none-frozen p i g;
-      stuck = λ T x k t g l m. none-frozen p k g;
+      is-active =
+          record {
+            is-feasible =
+                record {
+                  from-floor = λ i f y. none-frozen p i f;
+                  as-begun = λ i f z. none-frozen p i f;
+                  ordered = λ i j f g o. none-frozen p i f;
+                  fits =
+                      λ t r l.
+                      omega (arith, load-none (among p nothing) S t r (λ i f u k. none-frozen p i f));
+                };
+            least = λ j f y t l m. none-frozen p j f;
+          };
+      behind = λ G T x i k f g z e. none-frozen p i f;
     }
+
+module _ (p : Project) (resource : ℕ → ℕ) (bench : Bench p resource) where
+  pub components : Components p resource
+  components i k r hi hk l ui uk =
+      takes-only-own p resource (bench .one-unit) (λ x. 0) i r hi l ui
+      ∙ sym (takes-only-own p resource (bench .one-unit) (λ x. 0) k r hk l uk)
+
+  module _ (F : ℕ → Bool) (S : Starts) (state : Partial p resource F S) where
+    pub node-of : Node p F S
+    node-of =
+        record {
+          inside = state .inside;
+          closed = state .closed;
+          begun = λ i h z. true-not-false (bench .unfixed .all-free i h) z;
+          is-active = state .is-active;
+        }
+
+    soonest-room : (i : ℕ) → Open p F i → Room p F S i (soonest p resource F S i)
+    soonest-room i o =
+        let e : ℕ = soonest p resource F S i in
+        record {
+          from-floor = omega (arith, bench .from-zero);
+          ready =
+              λ k f c.
+              omega (
+                arith,
+                after-ready p resource F S i k f c,
+                bench .gapless k i (part-has p F (state .inside) k f) (o .has) c,
+              );
+          fits =
+              λ u r l from to.
+              by-cases
+              (ℕ-discrete (p .units i r) 0)
+              (λ z. omega (arith, state .is-active .is-feasible .fits u r l))
+              (λ ne.
+              let on : resource i ≡ r =
+              takes-only-own p resource (bench .one-unit) S i r (o .has) l (omega arith) in
+              let idle : load (among p F) S u r ≡ 0 =
+              load-none (among p F) S u r
+              (λ k f some runs.
+              omega (
+                arith,
+                after-avail p resource F S i k f
+                    (takes-only-own p resource (bench .one-unit) S k r (part-has p F (state .inside) k f) l some
+                    ∙ sym on),
+              ))
+              in
+              omega (
+                arith,
+                takes-at-most p resource (bench .one-unit) S i r (o .has) l,
+                bench .one-unit .single r l,
+              ));
+        }
+
+    pub soonest-is : (i : ℕ) → Open p F i → Soonest p F S i (soonest p resource F S i)
+    soonest-is i o =
+        record {
+          room = soonest-room i o;
+          least =
+              λ t room.
+              let x : Extends p F S (adding F i) (moved S i t) =
+              record {
+                within = node.child-inside p F S node-of i o;
+                closed = node.child-closed p F S node-of i o;
+                larger = λ k f. adding-old F i k (f .there);
+                feasible = node.placed-feasible p F S node-of i o t room;
+                agrees = λ k f. sym (moved-other S i t k (frozen-other p F k i f (o .waits)));
+              }
+              in
+              soonest-le
+              p
+              resource
+              F
+              S
+              i
+              t
+              (λ k f c. omega (arith, room .ready k f c))
+              (λ k f e.
+              omega (
+                arith,
+                moved-same S i t,
+                state .behind (adding F i) (moved S i t) x k i f
+                    (record { below = o .has .below; there = adding-new F i }) (o .waits) e,
+              ));
+        }
+
+    -- So whatever agrees with the state is under its node.
+    pub under-of : (T : Starts) → Feasible p T → Agree (among p F) S T → Under p resource F S T
+    under-of T f a =
+        record {
+          agrees = a;
+          after =
+              λ k i g y h z e.
+              let has : Has p k = part-has p F (state .inside) k g in
+              let x : Extends p F S (p .present) T =
+              record {
+                within = λ n l there. there;
+                closed = λ n m hn hm c. hn .there;
+                larger = λ n fn. part-has p F (state .inside) n fn .there;
+                feasible = f;
+                agrees = a;
+              }
+              in
+              let less : T k < T i =
+              omega (
+                arith,
+                a k g,
+                bench .sound .lasts k has,
+                state .behind (p .present) T x k i g h z (sym e),
+              )
+              in
+              record { low = omega arith; tie = λ w. absurd (omega arith) };
+        }
 
 -- A leaf: every activity is frozen.
 pub leaf-active : (p : Project) (resource : ℕ → ℕ) (F : ℕ → Bool) (S : Starts) → Bench p resource
     → Partial p resource F S → ((i : ℕ) → Has p i → F i ≡ true) → Active p S
-leaf-active p resource F S b state all =
-    let frozen : (i : ℕ) → Has p i → Frozen p F i = λ i h. record { below = h .below; there = all i h } in
-    let words : InWords (among p F) resource S =
-    feasible-in-words (among p F) resource S (part-bench p resource F (state .inside) b) .0 (state .fits) in
-    let f : Feasible p S =
-    feasible-in-words p resource S b .1
-    (record {
-      after = λ i j hi hj o. words .after i j (frozen i hi) (frozen j hj) o;
-      apart = λ i j hi hj ne e. words .apart i j (frozen i hi) (frozen j hj) ne e;
-    })
-    in
-    let self : Extends p F S S = record { feasible = f; agrees = λ i g. refl } in
-    record { is-feasible = f; least = λ j h y t l m. state .stuck S self j t (frozen j h) l m }
-
--- What is not frozen is open, or waits for another that is not frozen.
-
-pub record Waits (p : Project) (F : ℕ → Bool) (j : ℕ) : Type 0 where
-  pub for : ℕ
-  pub has : Has p for
-  pub waits : F for ≡ false
-  pub before : p .precedes for j ≡ true
-
-pub open-or-waits : (p : Project) (F : ℕ → Bool) (j : ℕ) → Has p j → F j ≡ false → Open p F j ⊎ Waits p F j
-open-or-waits p F j h z =
-    let needs : ℕ → Bool = λ k. p .present k && p .precedes k j in
-    let test : ℕ → Bool = λ k. needs k implies F k in
-    by-bool
-    (everyBelow (p .size) test)
-    (λ y.
-    inl (record {
-      has = h;
-      waits = z;
-      freed = λ k hk o. implies-elim (needs k) (F k) (every-at (p .size) test y k (hk .below)) (both (hk .there) o);
-    }))
-    (λ w.
-    let (k, l, fails) = every-fails (p .size) test w in
-    let (yes-needs, not-frozen) = implies-fails (needs k) (F k) fails in
-    inr (record {
-      for = k;
-      has = record { below = l; there = and-left (p .present k) (p .precedes k j) yes-needs };
-      waits = not-frozen;
-      before = and-right (p .present k) (p .precedes k j) yes-needs;
-    }))
-
--- Precedence goes up in a rank. Any feasible schedule is one.
-abbrev pub Ranked : Project → (ℕ → ℕ) → Type 0
-Ranked p rank = (i j : ℕ) → Has p i → Has p j → p .precedes i j ≡ true → rank i < rank j
-
--- As long as an activity is not frozen, one is open: that of lowest rank.
-pub some-open : (p : Project) (F : ℕ → Bool) (rank : ℕ → ℕ) → Ranked p rank → (k : ℕ) → Has p k → F k ≡ false
-    → (i : ℕ) × Open p F i
-some-open p F rank ranked k h z =
-    let test : ℕ → Bool = λ i. p .present i && not (F i) in
-    let least : First (p .size) test rank = first-of test rank (p .size) k (h .below) (both (h .there) (ap not z)) in
-    let j : ℕ = least .who in
-    let has : Has p j =
-    record { below = least .below; there = and-left (p .present j) (not (F j)) (least .passes) } in
-    let waits : F j ≡ false = not-true (F j) (and-right (p .present j) (not (F j)) (least .passes)) in
-    ⊎-elim
-    {C = (i : ℕ) × Open p F i}
-    (λ o. (j, o))
-    (λ w.
-    absurd (
-    omega (
-      arith,
-      ranked (w .for) j (w .has) has (w .before),
-      least .least (w .for) (w .has .below) (both (w .has .there) (ap not (w .waits))),
-    )
-    ))
-    (open-or-waits p F j has waits)
+leaf-active p resource F S bench state = node.leaf-active p F S (node-of p resource bench F S state)

@@ -19,7 +19,7 @@ Agree p S S′ = (i : ℕ) → Has p i → S i ≡ S′ i
 pub agree-sym : (p : Project) (S S′ : Starts) → Agree p S S′ → Agree p S′ S
 agree-sym p S S′ a i h = sym (a i h)
 
-agree-moved : (p : Project) (S S′ : Starts) (j t : ℕ) → Agree p S S′ → Agree p (moved S j t) (moved S′ j t)
+pub agree-moved : (p : Project) (S S′ : Starts) (j t : ℕ) → Agree p S S′ → Agree p (moved S j t) (moved S′ j t)
 agree-moved p S S′ j t a i h =
     by-cases
     (ℕ-discrete i j)
@@ -87,3 +87,31 @@ makespan-agree p S S′ a = ap₂ _-_ (latest-agree p S S′ a) (earliest-agree 
 pub part-has : (p : Project) (F : ℕ → Bool) → ((i : ℕ) → i < p .size → F i ≡ true → p .present i ≡ true) → (i : ℕ)
     → Has (among p F) i → Has p i
 part-has p F w i h = record { below = h .below; there = w i (h .below) (h .there) }
+
+-- What is feasible with more activities is so without them.
+pub part-feasible : (p : Project) (F G : ℕ → Bool) (S : Starts) → ((i : ℕ) → Has (among p F) i → G i ≡ true)
+    → Feasible (among p G) S → Feasible (among p F) S
+part-feasible p F G S w f =
+    let up : (i : ℕ) → Has (among p F) i → Has (among p G) i = λ i h. record { below = h .below; there = w i h } in
+    record {
+      from-floor = λ i h y. f .from-floor i (up i h) y;
+      as-begun = λ i h z. f .as-begun i (up i h) z;
+      ordered = λ i j hi hj o. f .ordered i j (up i hi) (up j hj) o;
+      fits =
+          λ t r l.
+          let less : load (among p F) S t r ≤ load (among p G) S t r =
+          load-mono p F G S S t t r (λ i b u y k. (w i (record { below = b; there = y }), k))
+          in
+          omega (arith, f .fits t r l);
+    }
+
+-- Two sets with the same activities.
+pub part-active : (p : Project) (F G : ℕ → Bool) (S : Starts) → ((i : ℕ) → Has (among p F) i → G i ≡ true)
+    → ((i : ℕ) → Has (among p G) i → F i ≡ true) → Active (among p F) S → Active (among p G) S
+part-active p F G S w v a =
+    record {
+      is-feasible = part-feasible p G F S v (a .is-feasible);
+      least =
+          λ j h y t l f.
+          a .least j (record { below = h .below; there = v j h }) y t l (part-feasible p F G (moved S j t) w f);
+    }

@@ -3,7 +3,7 @@
 use Prim.Native.Nat.{ℕ, _+_, _≤_, _<_}
 use native.Mathlib.Decide.{ℕ-discrete}
 use native.Mathlib.Omega.{arith}
-use mathlib.Core.Bool.{Bool, true, cond, _&&_}
+use mathlib.Core.Bool.{Bool, true, false, cond, _&&_}
 use mathlib.Core.Path.{_≡_, refl}
 use mathlib.Core.Logic.{_≢_, by-cases}
 use lib.Dec.{leb, ltb}
@@ -71,6 +71,9 @@ pub holds-some : (p : Project) (S : Starts) (t r i : ℕ) → 0 < holds p S t r 
 holds-some p S t r i h =
     by-bool (runs p S t i) (λ y. y) (λ z. absurd (omega (arith, cond-false (p .units i r) 0 z)))
 
+holds-none : (p : Project) (S : Starts) (t r i : ℕ) → p .present i ≡ false → holds p S t r i ≡ 0
+holds-none p S t r i z = rw z
+
 pub holds-le : (p : Project) (S : Starts) (t r i : ℕ) → holds p S t r i ≤ p .units i r
 holds-le p S t r i = cond-le (runs p S t i) (p .units i r)
 
@@ -117,6 +120,31 @@ load-mono-but p F G S S′ t t′ r j l f =
           (omega (arith, holds-le (among p F) S t r j)),
     )
 
+-- The same, where j runs besides.
+pub load-with : (p : Project) (F G : ℕ → Bool) (S S′ : Starts) (t t′ r j : ℕ) → j < p .size → F j ≡ false
+    → G j ≡ true → Runs p S′ t′ j
+    → ((i : ℕ) → i < p .size → i ≢ j → F i ≡ true → Runs p S t i → (G i ≡ true) × Runs p S′ t′ i)
+    → load (among p F) S t r + p .units j r ≤ load (among p G) S′ t′ r
+unfolding load
+load-with p F G S S′ t t′ r j l z y k f =
+    omega (
+      arith,
+      sum-le-but
+          (p .size)
+          (holds (among p F) S t r)
+          (holds (among p G) S′ t′ r)
+          j
+          (p .units j r)
+          0
+          l
+          (λ i l′ ne. holds-mono p F G S S′ t t′ r i (λ u. f i l′ ne))
+          (omega (
+            arith,
+            holds-all (among p G) S′ t′ r j y k,
+            holds-none (among p F) S t r j z,
+          )),
+    )
+
 pub units-in-load : (p : Project) (S : Starts) (t r i : ℕ) → Has p i → Runs p S t i → p .units i r ≤ load p S t r
 unfolding load
 units-in-load p S t r i h k =
@@ -129,6 +157,22 @@ load-some p S t r h =
     let (i, l, k) = sum-some (p .size) (holds p S t r) h in
     let e : runs p S t i ≡ true = holds-some p S t r i k in
     (i, record { below = l; there = runs-there p S t i e }, runs-is p S t i e)
+
+pub load-none : (p : Project) (S : Starts) (t r : ℕ)
+    → ((i : ℕ) → Has p i → 0 < p .units i r → Runs p S t i → ⊥) → load p S t r ≡ 0
+unfolding load
+load-none p S t r f =
+    sum-zero
+    (p .size)
+    (holds p S t r)
+    (λ i l.
+    by-cases
+    (ℕ-discrete (holds p S t r i) 0)
+    (λ z. z)
+    (λ ne.
+    let y : runs p S t i ≡ true = holds-some p S t r i (omega arith) in
+    absurd (f i (record { below = l; there = runs-there p S t i y }) (omega (arith, holds-le p S t r i))
+    (runs-is p S t i y))))
 
 -- Ends.
 
@@ -156,18 +200,7 @@ latest-mono p S S′ f = ends-least p S (latestEnd p S′) (λ i h. omega (arith
 
 -- From the latest end on nothing runs.
 pub load-after : (p : Project) (S : Starts) (t r : ℕ) → latestEnd p S ≤ t → load p S t r ≡ 0
-unfolding load
-load-after p S t r h =
-    sum-zero
-    (p .size)
-    (holds p S t r)
-    (λ i l.
-    by-bool
-    (runs p S t i)
-    (λ y.
-    let k : Runs p S t i = runs-is p S t i y in
-    absurd (omega (arith, end-le p S i (record { below = l; there = runs-there p S t i y }))))
-    (λ z. cond-false (p .units i r) 0 z))
+load-after p S t r h = load-none p S t r (λ i has u k. omega (arith, end-le p S i has))
 
 -- One start changed.
 

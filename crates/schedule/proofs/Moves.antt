@@ -115,46 +115,6 @@ module _ (p : Project) (S : Starts) (j t : ℕ) (has : Has p j) (e : Earlier p S
         fits = moved-fits f;
       }
 
--- The case in which all that runs before the old start of j, on the resources of j, belongs to a set F: then it is
--- enough that j fits among F. It waits for an edition with several units to a resource.
-pub record EarlierAmong (p : Project) (F : ℕ → Bool) (S : Starts) (j t : ℕ) : Type 0 where
-  pub lower : t ≤ S j
-  pub from-floor : p .floor ≤ t
-  pub ready : (i : ℕ) → Has p i → p .precedes i j ≡ true → endOf p S i + p .gap i j ≤ t
-  pub frozen : (u r i : ℕ) → r < p .resources → u < S j → Has p i → Runs p S u i → 0 < p .units i r → 0 < p .units j r
-      → F i ≡ true
-  pub room : (u r : ℕ) → r < p .resources → t ≤ u → u < t + p .duration j
-      → load (among p F) S u r + p .units j r ≤ p .capacity r
-
-pub earlier-among : (p : Project) (F : ℕ → Bool) (S : Starts) (j t : ℕ) → Feasible p S → EarlierAmong p F S j t
-    → Earlier p S j t
-earlier-among p F S j t f e =
-    record {
-      lower = e .lower;
-      from-floor = e .from-floor;
-      ready = e .ready;
-      room =
-          λ u r l a b c.
-          by-cases
-          (ℕ-discrete (p .units j r) 0)
-          (λ z. omega (arith, f .fits u r l))
-          (λ ne.
-          omega (
-            arith,
-            e .room u r l a c,
-            load-mono
-                p
-                (p .present)
-                F
-                S
-                S
-                u
-                u
-                r
-                (λ i m v y k. (e .frozen u r i l b (record { below = m; there = y }) k v (omega arith), k)),
-          ));
-    }
-
 -- Each activity fits by itself.
 pub own-fits : (p : Project) (S : Starts) → Sound p → Feasible p S → (i r : ℕ) → Has p i → r < p .resources
     → p .units i r ≤ p .capacity r

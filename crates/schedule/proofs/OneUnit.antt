@@ -32,10 +32,10 @@ module _ (p : Project) (resource : ℕ → ℕ) (one : OneUnit p resource) (S : 
   takes-own : (i r : ℕ) → Has p i → resource i ≡ r → r < p .resources → p .units i r ≡ 1
   takes-own i r h e l = one .takes i r h l ∙ cond-true 1 0 (eq-eqb (resource i) r e)
 
-  takes-at-most : (i r : ℕ) → Has p i → r < p .resources → p .units i r ≤ 1
+  pub takes-at-most : (i r : ℕ) → Has p i → r < p .resources → p .units i r ≤ 1
   takes-at-most i r h l = omega (arith, one .takes i r h l, cond-le (eqb (resource i) r) 1)
 
-  takes-only-own : (i r : ℕ) → Has p i → r < p .resources → 0 < p .units i r → resource i ≡ r
+  pub takes-only-own : (i r : ℕ) → Has p i → r < p .resources → 0 < p .units i r → resource i ≡ r
   takes-only-own i r h l u =
       by-bool
       (eqb (resource i) r)
