@@ -6,22 +6,23 @@ use native.Mathlib.Omega.{arith}
 use mathlib.Core.Bool.{Bool, true, false, not, _&&_, _||_, and-false, and-true, or-true, or-false}
 use mathlib.Core.List.{List}
 use mathlib.Core.Logic.{_≢_, by-cases}
-use mathlib.Core.Path.{_≡_, refl, sym, ap, ap₂, _∙_}
-use lib.Bits.{bitOr, or-lt}
+use mathlib.Core.Path.{_≡_, refl, sym, ap, ap₂, _∙_, subst}
+use lib.Bits.{bitAnd, bitOr, bitXor, or-lt}
 use lib.Dec.{eqb}
 use lib.ListN.{getD, set, length-set}
 use lib.Pow.{pow-lt}
 use lib.Seq.{getD-set-same, getD-set-other}
-use borrow.Author.Tests.{eq-eqb, ne-eqb}
+use borrow.Author.Tests.{eq-eqb, ne-eqb, not-true}
 use Rattle.base.proofs.Bools.{true-not-false, both, and-left, and-right}
 use Rattle.base.proofs.Below.{max-chosen}
-use Rattle.sets.proofs.Laws.{has-none, has-with, has-without}
+use Rattle.sets.proofs.Laws.{has-none, has-and, has-with, has-without}
 use Rattle.sets.specs.Sets.{most, has, meet}
 use Rattle.plan.specs.Limits.{latestPossible}
 use Rattle.sets.proofs.Members.{lowest-is, lowest-has, lowest-below, after-less}
 use Rattle.sets.specs.Lowest.{lowestOf, afterLowest}
 use Rattle.network.specs.Network.{predsAt, nextAt, nearAt, resourceAt}
-use Rattle.candidates.specs.Work.{endAt, readyAt, latestOf, Timed, opens, Released, Contests, readyFrom}
+use Rattle.network.proofs.Links.{has-minus}
+use Rattle.candidates.specs.Work.{endAt, readyAt, latestOf, Timed, Released, Readied, Contests, readyFrom}
 use Rattle.candidates.proofs.Folds.{latest-same}
 
 -- The member i is taken off the set m, and m′ is left.
@@ -93,121 +94,171 @@ gathered fits all {m} j none so-far =
     sym (or-false (has all j))
     ∙ sym (ap (λ (b : Bool). has all j || (b && fits j)) (ap (λ (x : ℕ). has x j) none ∙ has-none j)) ∙ so-far
 
--- ---- what waited for i alone is made ready
+-- ---- what waits for nothing left is made ready
 
--- All but the members of `rest` have been looked at.
-pub record Releasing (t : List ℕ) (left cands i : ℕ) (w₀ w : List ℕ) (all rest : ℕ) : Type 0 where
+-- Of the set `new`.
+abbrev frees : List ℕ → ℕ → ℕ → ℕ → Bool
+frees t left new j = has new j && not (meet (predsAt t j) left)
+
+-- All of the set but the members of `rest` have been looked at.
+pub record Releasing (t : List ℕ) (left cands new : ℕ) (w₀ w : List ℕ) (all rest : ℕ) : Type 0 where
   pub timed : Timed t w
   pub low : all < 2 ^ most
   pub rest-low : rest < 2 ^ most
-  pub inside : (j : ℕ) → has rest j ≡ true → has (nextAt t i) j ≡ true
+  pub inside : (j : ℕ) → has rest j ≡ true → has new j ≡ true
   pub found : (j : ℕ)
-      → (has all j || (has rest j && not (meet (predsAt t j) left))) ≡ (has cands j || opens t left i j)
-  pub readied : (j : ℕ) → j < most → has rest j ≡ false → opens t left i j ≡ true
+      → (has all j || (has rest j && not (meet (predsAt t j) left))) ≡ (has cands j || frees t left new j)
+  pub readied : (j : ℕ) → j < most → has rest j ≡ false → frees t left new j ≡ true
       → readyAt w j ≡ latestOf w₀ (nearAt t j)
-  pub same : (k : ℕ) → ((j : ℕ) → j < most → opens t left i j ≡ true → k ≡ readyFrom + j → ⊥)
+  pub same : (k : ℕ) → ((j : ℕ) → j < most → frees t left new j ≡ true → k ≡ readyFrom + j → ⊥)
       → getD w k 0 ≡ getD w₀ k 0
 
-module _ (t : List ℕ) (left cands i : ℕ) (w : List ℕ) where
-  pub releasing : cands < 2 ^ most → nextAt t i < 2 ^ most → Timed t w
-      → Releasing t left cands i w w cands (nextAt t i)
-  releasing low next timed =
+module _ (t : List ℕ) (left cands new : ℕ) (w : List ℕ) where
+  pub releasing : cands < 2 ^ most → new < 2 ^ most → Timed t w → Releasing t left cands new w w cands new
+  releasing low new-low timed =
       record {
         timed = timed;
         low = low;
-        rest-low = next;
+        rest-low = new-low;
         inside = λ j h. h;
         found = λ j. refl;
-        readied = λ j l no h. true-not-false (and-left (has (nextAt t i) j) (not (meet (predsAt t j) left)) h) no;
+        readied = λ j l no h. true-not-false (and-left (has new j) (not (meet (predsAt t j) left)) h) no;
         same = λ k other. refl;
       }
 
-  module _ {w′ : List ℕ} {all rest : ℕ} (so-far : Releasing t left cands i w w′ all rest) where
-    pub released : rest ≡ 0 → Released t left cands i w w′ all
-    released none =
+  module _ {w′ : List ℕ} {all rest : ℕ} (so-far : Releasing t left cands new w w′ all rest) {rest′ j : ℕ}
+      (turn : Turn rest rest′ j) where
+    still : (k : ℕ) → has rest′ k ≡ true → has new k ≡ true
+    still k h =
+        so-far .inside k (by-cases (ℕ-discrete k j) (λ e. ap (has rest) e ∙ turn .there)
+        (λ ne. sym (turn .others k ne) ∙ h))
+
+    -- j waits for another too.
+    pub release-less : meet (predsAt t j) left ≡ true → Releasing t left cands new w w′ all rest′
+    release-less y =
         record {
           timed = so-far .timed;
           low = so-far .low;
-          found = λ j l. gathered (λ k. not (meet (predsAt t k) left)) all j none (so-far .found j);
-          readied = λ j l. so-far .readied j l (ap (λ (x : ℕ). has x j) none ∙ has-none j);
+          rest-low = turn .low;
+          inside = still;
+          found = λ k. gather-less (λ x. not (meet (predsAt t x) left)) all turn k (so-far .found k) (ap not y);
+          readied =
+              λ k l no h.
+              by-cases
+              (ℕ-discrete k j)
+              (λ e. true-not-false (and-right (has new k) (not (meet (predsAt t k) left)) h)
+              (ap (λ (x : ℕ). not (meet (predsAt t x) left)) e ∙ ap not y))
+              (λ ne. so-far .readied k l (sym (turn .others k ne) ∙ no) h);
           same = so-far .same;
         }
 
-    module _ {rest′ j : ℕ} (turn : Turn rest rest′ j) where
-      still : (k : ℕ) → has rest′ k ≡ true → has (nextAt t i) k ≡ true
-      still k h =
-          so-far .inside k (by-cases (ℕ-discrete k j) (λ e. ap (has rest) e ∙ turn .there)
-          (λ ne. sym (turn .others k ne) ∙ h))
+    latest-early : (set : ℕ) → latestOf w′ set ≤ latestPossible
+    latest-early set = max-chosen most (has set) (endAt w′) latestPossible (λ k l. so-far .timed .times k)
 
-      -- j waits for another too.
-      pub release-less : meet (predsAt t j) left ≡ true → Releasing t left cands i w w′ all rest′
-      release-less y =
-          record {
-            timed = so-far .timed;
-            low = so-far .low;
-            rest-low = turn .low;
-            inside = still;
-            found = λ k. gather-less (λ x. not (meet (predsAt t x) left)) all turn k (so-far .found k) (ap not y);
-            readied =
-                λ k l no h.
-                by-cases
-                (ℕ-discrete k j)
-                (λ e. true-not-false (and-right (has (nextAt t i) k) (not (meet (predsAt t k) left)) h)
-                (ap (λ (x : ℕ). not (meet (predsAt t x) left)) e ∙ ap not y))
-                (λ ne. so-far .readied k l (sym (turn .others k ne) ∙ no) h);
-            same = so-far .same;
-          }
+    stored : (x : ℕ) → x ≤ latestPossible → (k : ℕ) → getD (set w′ (readyFrom + j) x) k 0 ≤ latestPossible
+    stored x h k =
+        by-cases
+        (ℕ-discrete k (readyFrom + j))
+        (λ e.
+        omega (
+          arith,
+          h,
+          ap (λ (y : ℕ). getD (set w′ (readyFrom + j) x) y 0) e,
+          getD-set-same w′ (readyFrom + j) x 0
+              (omega (arith, so-far .timed .size, turn .below)),
+        ))
+        (λ ne. omega (arith, getD-set-other w′ (readyFrom + j) k x 0 ne, so-far .timed .times k))
 
-      latest-early : (set : ℕ) → latestOf w′ set ≤ latestPossible
-      latest-early set = max-chosen most (has set) (endAt w′) latestPossible (λ k l. so-far .timed .times k)
+    -- j waits for nothing, and x is the latest end of its nearest predecessors.
+    release-with : (x : ℕ) → meet (predsAt t j) left ≡ false → x ≡ latestOf w′ (nearAt t j)
+        → Releasing t left cands new w (set w′ (readyFrom + j) x) (bitOr all (2 ^ j)) rest′
+    release-with x n e =
+        let ends : (k : ℕ) → k < most → endAt w′ k ≡ endAt w k = λ k l. so-far .same k (λ b l′ h q. omega arith) in
+        let mine : frees t left new j ≡ true = both (so-far .inside j (turn .there)) (ap not n) in
+        record {
+          timed =
+              record {
+                durations = so-far .timed .durations;
+                times = stored x (omega (arith, latest-early (nearAt t j)));
+                size = length-set w′ (readyFrom + j) x ∙ so-far .timed .size;
+              };
+          low = with-low all j (so-far .low) (turn .below);
+          rest-low = turn .low;
+          inside = still;
+          found = λ k. gather-more (λ y. not (meet (predsAt t y) left)) all turn k (so-far .found k) (ap not n);
+          readied =
+              λ k l no h.
+              by-cases
+              (ℕ-discrete k j)
+              (λ q.
+              ap (λ (y : ℕ). getD (set w′ (readyFrom + j) x) (readyFrom + y) 0) q
+              ∙ getD-set-same w′ (readyFrom + j) x 0 (omega (arith, so-far .timed .size, turn .below))
+              ∙ e
+              ∙ latest-same w′ w (nearAt t j) ends
+              ∙ ap (λ (y : ℕ). latestOf w (nearAt t y)) (sym q))
+              (λ ne. getD-set-other w′ (readyFrom + j) (readyFrom + k) x 0 (λ q. ne (omega arith))
+              ∙ so-far .readied k l (sym (turn .others k ne) ∙ no) h);
+          same =
+              λ k other. getD-set-other w′ (readyFrom + j) k x 0 (λ q. other j (turn .below) mine q)
+              ∙ so-far .same k other;
+        }
 
-      stored : (x : ℕ) → x ≤ latestPossible → (k : ℕ) → getD (set w′ (readyFrom + j) x) k 0 ≤ latestPossible
-      stored x h k =
-          by-cases
-          (ℕ-discrete k (readyFrom + j))
-          (λ e.
-          omega (
-            arith,
-            h,
-            ap (λ (y : ℕ). getD (set w′ (readyFrom + j) x) y 0) e,
-            getD-set-same w′ (readyFrom + j) x 0
-                (omega (arith, so-far .timed .size, turn .below)),
-          ))
-          (λ ne. omega (arith, getD-set-other w′ (readyFrom + j) k x 0 ne, so-far .timed .times k))
+    pub release-more : (x : ℕ) {w″ : List ℕ} {all′ : ℕ} → meet (predsAt t j) left ≡ false
+        → x ≡ latestOf w′ (nearAt t j)
+        → w″ ≡ set w′ (readyFrom + j) x
+        → all′ ≡ bitOr all (2 ^ j)
+        → Releasing t left cands new w w″ all′ rest′
+    release-more x {w″} n e at-w at-all =
+        subst (λ y. Releasing t left cands new w w″ y rest′) (sym at-all)
+        (subst (λ y. Releasing t left cands new w y (bitOr all (2 ^ j)) rest′) (sym at-w) (release-with x n e))
 
-      -- j waits for i alone, and x is the latest end of its nearest predecessors.
-      pub release-more : (x : ℕ) → meet (predsAt t j) left ≡ false → x ≡ latestOf w′ (nearAt t j)
-          → Releasing t left cands i w (set w′ (readyFrom + j) x) (bitOr all (2 ^ j)) rest′
-      release-more x n e =
-          let ends : (k : ℕ) → k < most → endAt w′ k ≡ endAt w k = λ k l. so-far .same k (λ b l′ h q. omega arith) in
-          let mine : opens t left i j ≡ true = both (so-far .inside j (turn .there)) (ap not n) in
-          record {
-            timed =
-                record {
-                  durations = so-far .timed .durations;
-                  times = stored x (omega (arith, latest-early (nearAt t j)));
-                  size = length-set w′ (readyFrom + j) x ∙ so-far .timed .size;
-                };
-            low = with-low all j (so-far .low) (turn .below);
-            rest-low = turn .low;
-            inside = still;
-            found = λ k. gather-more (λ y. not (meet (predsAt t y) left)) all turn k (so-far .found k) (ap not n);
-            readied =
-                λ k l no h.
-                by-cases
-                (ℕ-discrete k j)
-                (λ q.
-                ap (λ (y : ℕ). getD (set w′ (readyFrom + j) x) (readyFrom + y) 0) q
-                ∙ getD-set-same w′ (readyFrom + j) x 0 (omega (arith, so-far .timed .size, turn .below))
-                ∙ e
-                ∙ latest-same w′ w (nearAt t j) ends
-                ∙ ap (λ (y : ℕ). latestOf w (nearAt t y)) (sym q))
-                (λ ne. getD-set-other w′ (readyFrom + j) (readyFrom + k) x 0 (λ q. ne (omega arith))
-                ∙ so-far .readied k l (sym (turn .others k ne) ∙ no) h);
-            same =
-                λ k other. getD-set-other w′ (readyFrom + j) k x 0 (λ q. other j (turn .below) mine q)
-                ∙ so-far .same k other;
-          }
+-- What has i as a nearest predecessor has been looked at.
+pub released : (t : List ℕ) (left cands i : ℕ) (w : List ℕ) {w′ : List ℕ} {all rest : ℕ}
+    → Releasing t left cands (nextAt t i) w w′ all rest → rest ≡ 0 → Released t left cands i w w′ all
+released t left cands i w {w′} {all} so-far none =
+    record {
+      timed = so-far .timed;
+      low = so-far .low;
+      found = λ j l. gathered (λ k. not (meet (predsAt t k) left)) all j none (so-far .found j);
+      readied = λ j l. so-far .readied j l (ap (λ (x : ℕ). has x j) none ∙ has-none j);
+      same = so-far .same;
+    }
+
+-- What is left and not placed has been looked at.
+module _ (t : List ℕ) (left placed new : ℕ) (is-new : new ≡ bitXor left (bitAnd left placed)) where
+  has-new : (j : ℕ) → has new j ≡ (has left j && not (has placed j))
+  has-new j = ap (λ (x : ℕ). has x j) is-new ∙ has-minus left placed j
+
+  pub readied-rest : (cands : ℕ) (w : List ℕ) {w′ : List ℕ} {all rest : ℕ} → cands ≡ bitAnd left placed
+      → Releasing t left cands new w w′ all rest → rest ≡ 0 → Readied t left placed w w′ all
+  readied-rest cands w {w′} {all} is-cands so-far none =
+      record {
+        timed = so-far .timed;
+        low = so-far .low;
+        found =
+            λ j l.
+            gathered (λ k. not (meet (predsAt t k) left)) all j none (so-far .found j)
+            ∙ ap₂ (λ (x y : Bool). x || (y && not (meet (predsAt t j) left)))
+            (ap (λ (x : ℕ). has x j) is-cands ∙ has-and left placed j) (has-new j)
+            ∙ placed-or-not (has left j) (has placed j) (not (meet (predsAt t j) left));
+        readied =
+            λ j l p q m.
+            so-far .readied j l (ap (λ (x : ℕ). has x j) none ∙ has-none j)
+            (both (has-new j ∙ both p (ap not q)) (ap not m));
+        same =
+            λ k other.
+            so-far .same k
+            (λ j l h.
+            let two : (has left j && not (has placed j)) ≡ true =
+            sym (has-new j) ∙ and-left (has new j) (not (meet (predsAt t j) left)) h in
+            other j l (and-left (has left j) (not (has placed j)) two)
+            (not-true (has placed j) (and-right (has left j) (not (has placed j)) two)));
+      }
+    where
+      placed-or-not : (x y z : Bool) → ((x && y) || ((x && not y) && z)) ≡ (x && (y || z))
+      placed-or-not true true z = refl
+      placed-or-not true false z = refl
+      placed-or-not false y z = refl
 
 -- ---- rivals for a resource
 

@@ -1,17 +1,18 @@
 -- The working array of the search: the end of each frozen activity, when the predecessors of each candidate have
 -- ended, and the last frozen end on each resource; and what the functions that read it find.
-use Prim.Native.Nat.{ℕ, _+_, _*_, _/_, _%_, _^_, _≤_, _<_, max}
-use mathlib.Core.Bool.{Bool, true, cond, not, _&&_, _||_}
+use Prim.Native.Nat.{ℕ, _+_, _-_, _*_, _/_, _%_, _^_, _≤_, _<_, max}
+use mathlib.Core.Bool.{Bool, true, false, cond, not, _&&_, _||_}
 use mathlib.Core.List.{List}
 use mathlib.Core.Path.{_≡_}
+use lib.Bits.{bitAnd}
 use lib.Dec.{eqb, ltb}
 use lib.ListN.{length, getD}
-use Rattle.base.specs.Below.{maxBelow}
-use Rattle.sets.specs.Sets.{most, has, meet, width}
+use Rattle.base.specs.Below.{sumBelow, maxBelow}
+use Rattle.sets.specs.Sets.{most, has, meet, size, width}
 use Rattle.plan.specs.Limits.{mostResources, packing, longestDuration, latestPossible}
 use Rattle.scan.specs.Model.{never, leastBelow}
 use Rattle.sets.specs.Lowest.{afterLowest}
-use Rattle.network.specs.Network.{packedAt, predsAt, nextAt, nearAt, durationAt, resourceAt}
+use Rattle.network.specs.Network.{packedAt, predsAt, nextAt, nearAt, onAt, durationAt, resourceAt}
 
 -- Where the second and the third part begin, and the length of the whole.
 abbrev pub readyFrom : ℕ
@@ -87,3 +88,18 @@ pub record Uncontested (t : List ℕ) (set : ℕ) : Type 0 where
 pub record Contests (t : List ℕ) (set r : ℕ) : Type 0 where
   pub none : r ≡ 0 → Uncontested t set
   pub some : 0 < r → 0 < afterLowest set
+
+-- How many of a set come after the first on their resource.
+unfoldable pub crowd : List ℕ → ℕ → ℕ
+crowd t set = sumBelow mostResources λ r. size (bitAnd set (onAt t r)) most - 1
+
+-- Those that are left without a predecessor left, each with the time from which it is ready where it was not placed.
+pub record Readied (t : List ℕ) (left placed : ℕ) (w w′ : List ℕ) (r : ℕ) : Type 0 where
+  pub timed : Timed t w′
+  pub low : r < 2 ^ most
+  pub found : (i : ℕ) → i < most → has r i ≡ (has left i && (has placed i || not (meet (predsAt t i) left)))
+  pub readied : (i : ℕ) → i < most → has left i ≡ true → has placed i ≡ false → meet (predsAt t i) left ≡ false
+      → readyAt w′ i ≡ latestOf w (nearAt t i)
+  pub same : (k : ℕ)
+      → ((i : ℕ) → i < most → has left i ≡ true → has placed i ≡ false → k ≡ readyFrom + i → ⊥)
+      → getD w′ k 0 ≡ getD w k 0

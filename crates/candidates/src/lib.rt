@@ -12,12 +12,14 @@ use sets::after_lowest;
 use sets::lowest;
 ghost use mathlib.Core.Path.{_≡_};
 ghost use Prim.Native.Nat.{_^_, _<_, _/_, _+_, max, min, _*_};
-ghost use Rattle.sets.specs.Sets.{most, has};
+ghost use lib.ListN.{set};
+ghost use Rattle.sets.specs.Sets.{most, has, width};
 ghost use Rattle.sets.specs.Lowest.{afterLowest};
-ghost use Rattle.network.specs.Network.{Linked};
+ghost use Rattle.network.specs.Network.{Linked, Grouped};
 ghost use Rattle.candidates.specs.Work.{latestOf, soonAt, finishAt, keyAt, leastAt, choiceAt, Timed, Released};
-ghost use Rattle.candidates.specs.Work.{Opened, Contests};
-ghost use Rattle.plan.specs.Limits.{packing};
+ghost use Rattle.candidates.specs.Work.{Opened, Contests, crowd, Readied};
+ghost use Rattle.plan.specs.Limits.{packing, mostResources};
+ghost use Rattle.candidates.specs.Work.{endAt, readyAt, freeAt, readyFrom, freeFrom};
 
 // More than any end, and more than any key.
 pub const NEVER: u32 = 4294967295;
@@ -38,10 +40,53 @@ pub fn later(a: u32, b: u32) -> u32
     if a < b { b } else { a }
 }
 
-fn smaller(a: u32, b: u32) -> u32
+pub fn smaller(a: u32, b: u32) -> u32
     ensures { λ r. ⌜ r ≡ min a b ⌝ }
 {
     if b < a { b } else { a }
+}
+
+// The columns of the working array.
+pub fn end_of(work: &Work, i: usize) -> u32
+    requires { ⌜ i < width ⌝ }
+    ensures { λ r. ⌜ r ≡ endAt (now (work .entry)) i ⌝ }
+{
+    work[i]
+}
+
+pub fn ready_of(work: &Work, i: usize) -> u32
+    requires { ⌜ i < width ⌝ }
+    ensures { λ r. ⌜ r ≡ readyAt (now (work .entry)) i ⌝ }
+{
+    work[READY + i]
+}
+
+pub fn free_of(work: &Work, r: usize) -> u32
+    requires { ⌜ r < mostResources ⌝ }
+    ensures { λ x. ⌜ x ≡ freeAt (now (work .entry)) r ⌝ }
+{
+    work[FREE + r]
+}
+
+pub fn store_end(work: &mut Work, i: usize, tick: u32)
+    requires { ⌜ i < width ⌝ }
+    ensures { λ _. ⌜ now (work .exit) ≡ set (now (work .entry)) i tick ⌝ }
+{
+    work[i] = tick;
+}
+
+pub fn store_ready(work: &mut Work, i: usize, tick: u32)
+    requires { ⌜ i < width ⌝ }
+    ensures { λ _. ⌜ now (work .exit) ≡ set (now (work .entry)) (readyFrom + i) tick ⌝ }
+{
+    work[READY + i] = tick;
+}
+
+pub fn store_free(work: &mut Work, r: usize, tick: u32)
+    requires { ⌜ r < mostResources ⌝ }
+    ensures { λ _. ⌜ now (work .exit) ≡ set (now (work .entry)) (freeFrom + r) tick ⌝ }
+{
+    work[FREE + r] = tick;
 }
 
 // The latest end in a set of activities, 0 where there is none.
@@ -100,7 +145,7 @@ pub fn least_key(table: &Table, work: &Work, cands: u32) -> u32
 }
 
 // The tick of a key.
-fn tick_of(key: u32) -> u32
+pub fn tick_of(key: u32) -> u32
     ensures { λ r. ⌜ r ≡ key / packing ⌝ }
 {
     key / PACKING
@@ -185,6 +230,46 @@ pub fn opened(table: &Table, set: u32) -> u32
         let i = lowest(rest);
         rest = after_lowest(rest);
         if !sets::meets(table[PREDS + i], set) {
+            all = sets::union(all, sets::single(i));
+        }
+    }
+    all
+}
+
+// How many of a set come after the first on their resource.
+pub fn crowding(table: &Table, set: u32) -> u32
+    requires { ⌜ (set < 2 ^ most) × Grouped (now table) ⌝ }
+    ensures { λ r. ⌜ r ≡ crowd (now (table .entry)) set ⌝ }
+{
+    let mut many = 0;
+    let mut seen = 0;
+    let mut rest = set;
+    while rest != 0 {
+        let i = lowest(rest);
+        rest = after_lowest(rest);
+        let own = resource_of(table[i]);
+        let again = sets::contains(seen, own);
+        seen = sets::union(seen, sets::single(own));
+        if again {
+            many += 1;
+        }
+    }
+    many
+}
+
+// What is left and has no predecessor left, made ready where it is not placed.
+pub fn ready_rest(table: &Table, work: &mut Work, left: u32, placed: u32) -> u32
+    requires { ⌜ (left < 2 ^ most) × (placed < 2 ^ most) × Linked (now table) × Timed (now table) (now work) ⌝ }
+    ensures { λ r. ⌜ Readied (now (table .entry)) left placed (now (work .entry)) (now (work .exit)) r ⌝ }
+{
+    let mut all = sets::common(left, placed);
+    let mut rest = sets::minus(left, placed);
+    while rest != 0 {
+        let i = lowest(rest);
+        rest = after_lowest(rest);
+        if !sets::meets(table[PREDS + i], left) {
+            let from = latest(work, table[NEAR + i]);
+            store_ready(work, i, from);
             all = sets::union(all, sets::single(i));
         }
     }

@@ -30,7 +30,7 @@ less true true = refl
 less true false = refl
 less false y = refl
 
-has-minus : (a b k : ℕ) → has (bitXor a (bitAnd a b)) k ≡ (has a k && not (has b k))
+pub has-minus : (a b k : ℕ) → has (bitXor a (bitAnd a b)) k ≡ (has a k && not (has b k))
 has-minus a b k = has-xor a (bitAnd a b) k ∙ ap (xor (has a k)) (has-and a b k) ∙ less (has a k) (has b k)
 
 -- The members before those of `rest` have been looked at.

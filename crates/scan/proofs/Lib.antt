@@ -1,3 +1,4 @@
 -- Laws of the search's model.
 pub mod Forced
+pub mod Resolve
 pub mod Starts

@@ -56,6 +56,13 @@ pub fn minus(a: u32, b: u32) -> u32
     a ^ (a & b)
 }
 
+// The activities of both sets.
+pub fn common(a: u32, b: u32) -> u32
+    ensures { λ r. ⌜ r ≡ bitAnd a b ⌝ }
+{
+    a & b
+}
+
 // The lowest member.
 pub fn lowest(set: u32) -> usize
     ensures { λ r. ⌜ r ≡ lowestOf set ⌝ }

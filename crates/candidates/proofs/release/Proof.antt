@@ -1,18 +1,15 @@
 -- `release` meets its contract. The loop's invariant: what has been looked at is gathered and ready where it waited
 -- for i alone.
-use mathlib.Core.Bool.{false, not}
-use mathlib.Core.Path.{_≡_, sym, ap, _∙_, subst}
-use Prim.Native.Nat.{ℕ, _+_, _^_}
+use mathlib.Core.Bool.{not}
+use mathlib.Core.Path.{refl, sym, ap, _∙_}
 use native.Mathlib.Omega.{arith}
 use borrow.Author.Needs.{needs}
 use borrow.Author.Tests.{not-true, not-false}
 use lib.Bits.{bitOr}
-use lib.ListN.{set}
 use Rattle.sets.specs.Sets.{meet}
-use Rattle.network.specs.Network.{predsAt}
+use Rattle.network.specs.Network.{predsAt, nextAt}
 use Rattle.candidates.proofs.Turns.{Turn, turned, Releasing, releasing, released, release-less, release-more}
 use Rattle.candidates.proofs.release.Statement.{statement}
-use Rattle.candidates.specs.Work.{readyFrom}
 use Rattle.candidates.proofs.release.Tie as tie
 use Rattle.candidates.proofs.release.Lts as lts
 use Rattle.candidates.proofs.release.Reads as reads
@@ -24,7 +21,8 @@ use Rattle.sets.proofs.single.Reads as single-reads
 use Rattle.sets.proofs.union.Reads as union-reads
 
 abbrev Inv-loop : tie.InvT-loop
-Inv-loop table work₀ left cands i all₀ rest₀ work all rest = Releasing table left cands i work₀ work all rest
+Inv-loop table work₀ left cands i all₀ rest₀ work all rest =
+    Releasing table left cands (nextAt table i) work₀ work all rest
 
 abbrev μ-loop : tie.MeasureT-loop
 μ-loop table work₀ left cands i all₀ rest₀ work all rest = rest
@@ -73,8 +71,8 @@ loop-holds : tie.Need-loop-holds Inv-loop μ-loop
 loop-holds c =
     let a = c .before .args in
     let pre = c .before .pre in
-    releasing (a .table .now) (a .left) (a .cands) (a .i) (a .work .now) (pre .1) (pre .2 .next-low (a .i) (pre .0))
-    (pre .3)
+    releasing (a .table .now) (a .left) (a .cands) (nextAt (a .table .now) (a .i)) (a .work .now) (pre .1)
+    (pre .2 .next-low (a .i) (pre .0)) (pre .3)
 
 lowest-requires : tie.Need-lowest-requires Inv-loop μ-loop
 lowest-requires c κs = search needs
@@ -132,17 +130,14 @@ loop-again c =
     let l = c .before .before .before .before .before .before .before .before in
     let at = l .before .before .before in
     let a = at .before .before .args in
-    let x = c .before .before .latest .result in
-    let new : c .union .result ≡ bitOr (at .loop .all) (2 ^ l .before .lowest .result) =
-    c .union .ensures ∙ ap (bitOr (at .loop .all)) (c .before .single .ensures) in
-    let free : meet (predsAt (a .table .now) (l .before .lowest .result)) (a .left) ≡ false =
-    not-true (meet (predsAt (a .table .now) (l .before .lowest .result)) (a .left))
+    release-more (a .table .now) (a .left) (a .cands) (nextAt (a .table .now) (a .i)) (a .work .now) (at .loop .inv)
+    (turn l) (c .before .before .latest .result)
+    (not-true (meet (predsAt (a .table .now) (l .before .lowest .result)) (a .left))
     (ap not (sym (c .before .before .before .before .before .before .meets .ensures))
-    ∙ c .before .before .before .before .before .if1 .taken) in
-    subst (λ (y : ℕ). Releasing (a .table .now) (a .left) (a .cands) (a .i) (a .work .now)
-    (set (at .loop .work) (readyFrom + l .before .lowest .result) x) y (l .after-lowest .result)) (sym new)
-    (release-more (a .table .now) (a .left) (a .cands) (a .i) (a .work .now) (at .loop .inv) (turn l) x free
-    (c .before .before .latest .ensures))
+    ∙ c .before .before .before .before .before .if1 .taken))
+    (c .before .before .latest .ensures)
+    refl
+    (c .union .ensures ∙ ap (bitOr (at .loop .all)) (c .before .single .ensures))
 
 loop-less-2 : tie.Need-loop-less-2 Inv-loop μ-loop
 loop-less-2 c = omega (arith, turn (c .before .before .before) .fewer)
@@ -152,7 +147,8 @@ loop-again-2 c =
     let l = c .before .before .before in
     let at = l .before .before .before in
     let a = at .before .before .args in
-    release-less (a .table .now) (a .left) (a .cands) (a .i) (a .work .now) (at .loop .inv) (turn l)
+    release-less (a .table .now) (a .left) (a .cands) (nextAt (a .table .now) (a .i)) (a .work .now) (at .loop .inv)
+    (turn l)
     (not-false (meet (predsAt (a .table .now) (l .before .lowest .result)) (a .left))
     (ap not (sym (c .before .meets .ensures)) ∙ c .if1 .left))
 

@@ -1,0 +1,2 @@
+-- The loops of a move.
+pub mod Steps

@@ -1,0 +1,2 @@
+-- What the contracts of the steps of a move say.
+pub mod Moves
