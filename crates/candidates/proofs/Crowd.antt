@@ -4,7 +4,7 @@ use Prim.Native.Nat.{ℕ, suc, _+_, _-_, _*_, _^_, _≤_, _<_}
 use native.Mathlib.Nat.{lt-of-le-of-lt}
 use native.Mathlib.Decide.{ℕ-discrete, decLt}
 use native.Mathlib.Omega.{arith}
-use mathlib.Core.Bool.{Bool, true, false, cond, not, _&&_, _||_, and-false, and-true, or-true, or-false}
+use mathlib.Core.Bool.{Bool, true, false, cond, not, _&&_, _||_, and-false, and-true, or-true}
 use mathlib.Core.List.{List}
 use mathlib.Core.Logic.{_≢_, by-cases}
 use mathlib.Core.Path.{_≡_, refl, sym, ap, ap₂, _∙_}
@@ -17,10 +17,9 @@ use Rattle.base.proofs.Bools.{by-bool, true-not-false, same-bool, both, and-lef
 use Rattle.plan.specs.Limits.{mostResources}
 use Rattle.sets.specs.Sets.{most, has, meet, size}
 use Rattle.sets.specs.Lowest.{afterLowest}
-use Rattle.sets.proofs.Laws.{has-none, has-and, has-with, has-without, has-above, has-some, meet-at, meet-of}
+use Rattle.sets.proofs.Laws.{has-none, has-and, has-with, has-without, has-above, has-some, meet-at, meet-of, has-minus}
 use Rattle.sets.proofs.Laws.{size-same, size-none, size-le, size-more, size-without}
 use Rattle.network.specs.Network.{onAt, resourceAt, Grouped}
-use Rattle.network.proofs.Links.{has-minus}
 use Rattle.candidates.specs.Work.{crowd, Uncontested}
 use Rattle.candidates.proofs.Turns.{Turn, two-members}
 
@@ -121,21 +120,12 @@ module _ (a b i : ℕ) (there : has a i ≡ true) (gone : has b i ≡ false)
         (λ y. omega (arith, cond-true {A = ℕ} 1 0 y, meets-some (onAt t own) b (fit .low own low) y))
         (λ n. omega (arith, cond-false {A = ℕ} 1 0 n, meets-none (onAt t own) b n))
 
-    pub crowd-more : crowd t a ≡ crowd t b + cond (meet (onAt t (resourceAt t i)) b) 1 0
+    crowd-more : crowd t a ≡ crowd t b + cond (meet (onAt t (resourceAt t i)) b) 1 0
     unfolding crowd
     crowd-more =
         sum-eq-but mostResources (λ r. manyOn t a r - 1) (λ r. manyOn t b r - 1) own
         (cond (meet (onAt t own) b) 1 0) (omega arith)
         (λ r h ne. ap (λ (x : ℕ). x - 1) (elsewhere r h ne)) here
-
-pub crowd-with : (t : List ℕ) (set i : ℕ) → Grouped t → i < most → has set i ≡ false
-    → crowd t (bitOr set (2 ^ i)) ≡ crowd t set + cond (meet (onAt t (resourceAt t i)) set) 1 0
-crowd-with t set i fit l new =
-    crowd-more (bitOr set (2 ^ i)) set i
-    (has-with set i i ∙ ap (λ (b : Bool). has set i || b) (eq-eqb i i refl) ∙ or-true (has set i))
-    new
-    (λ j ne. has-with set i j ∙ ap (λ (b : Bool). has set j || b) (ne-eqb j i ne) ∙ or-false (has set j))
-    t fit l
 
 pub crowd-without : (t : List ℕ) (set i : ℕ) → Grouped t → i < most → has set i ≡ true
     → crowd t set ≡ crowd t (set - 2 ^ i) + cond (meet (onAt t (resourceAt t i)) (set - 2 ^ i)) 1 0

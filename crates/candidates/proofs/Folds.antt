@@ -1,20 +1,18 @@
--- The folds of the loops over a set's members, as the definitions have them, and what one candidate gives.
-use Prim.Native.Nat.{ℕ, zero, suc, _+_, _/_, _%_, _≤_, _<_, max, min}
+-- The folds of the loops over a set's members, as the definitions have them, and a bound.
+use Prim.Native.Nat.{ℕ, zero, suc, _+_, _≤_, _<_, max, min}
 use native.Mathlib.Omega.{arith}
-use mathlib.Core.Bool.{cond, and-false}
+use mathlib.Core.Bool.{cond}
 use mathlib.Core.List.{List, foldl}
 use mathlib.Core.Path.{_≡_, ap, _∙_}
-use borrow.Author.Tests.{lt-ltb, le-ltb, eq-eqb, ne-eqb}
 use Rattle.base.proofs.Bools.{cond-true, cond-false}
 use Rattle.base.proofs.Below.{max-eq}
 use Rattle.base.specs.Below.{maxBelow}
 use Rattle.sets.specs.Sets.{most, has}
 use Rattle.scan.specs.Model.{never, leastBelow}
-use Rattle.plan.specs.Limits.{packing, latestPossible}
+use Rattle.plan.specs.Limits.{latestPossible}
 use Rattle.sets.proofs.Members.{members, fold-members}
 use Rattle.network.specs.Network.{resourceAt}
-use Rattle.candidates.specs.Work.{endAt, latestOf, soonAt, keyAt, leastAt, choiceAt, Timed, readyFrom, freeFrom}
-use Rattle.candidates.specs.Work.{finishAt}
+use Rattle.candidates.specs.Work.{endAt, latestOf, soonAt, keyAt, leastAt, Timed, readyFrom, freeFrom}
 
 -- The latest of the ends of a set's members.
 pub latest-fold : (w : List ℕ) (set : ℕ) → foldl (λ a i. max a (endAt w i)) 0 (members set) ≡ latestOf w set
@@ -49,21 +47,6 @@ key-fold t w cands =
     ∙ omega (arith, least-le i λ j. cond (has cands j) (keyAt t w j) never))
     most
 
--- ---- one candidate's earliest start, and whether it is a choice
-
-module _ (t w : List ℕ) (i : ℕ) where
-  pub soon-early : Timed t w → soonAt t w i ≤ latestPossible
-  soon-early fit = omega (arith, fit .times (readyFrom + i), fit .times (freeFrom + resourceAt t i))
-
-  module _ (k : ℕ) where
-    pub choice-elsewhere : (resourceAt t i ≡ k % packing → ⊥) → never ≡ choiceAt t w k i
-    unfolding choiceAt
-    choice-elsewhere ne = rw (ne-eqb (resourceAt t i) (k % packing) ne)
-
-    pub choice-late : k / packing ≤ soonAt t w i → never ≡ choiceAt t w k i
-    unfolding choiceAt
-    choice-late l = rw (le-ltb (soonAt t w i) (k / packing) l, and-false)
-
-    pub choice-some : resourceAt t i ≡ k % packing → soonAt t w i < k / packing → finishAt t w i ≡ choiceAt t w k i
-    unfolding choiceAt
-    choice-some r l = rw (eq-eqb (resourceAt t i) (k % packing) r, lt-ltb (soonAt t w i) (k / packing) l)
+-- The earliest start of a candidate is early.
+pub soon-early : (t w : List ℕ) (i : ℕ) → Timed t w → soonAt t w i ≤ latestPossible
+soon-early t w i fit = omega (arith, fit .times (readyFrom + i), fit .times (freeFrom + resourceAt t i))

@@ -1,5 +1,4 @@
--- What a turn of a loop over a set's members keeps, where the loop gathers members, makes them ready, or counts
--- rivals.
+-- What a turn of a loop over a set's members keeps, where the loop makes members ready.
 use Prim.Native.Nat.{ℕ, _+_, _-_, _^_, _≤_, _<_}
 use native.Mathlib.Decide.{ℕ-discrete}
 use native.Mathlib.Omega.{arith}
@@ -15,14 +14,13 @@ use lib.Seq.{getD-set-same, getD-set-other}
 use borrow.Author.Tests.{eq-eqb, ne-eqb, not-true}
 use Rattle.base.proofs.Bools.{true-not-false, both, and-left, and-right}
 use Rattle.base.proofs.Below.{max-chosen}
-use Rattle.sets.proofs.Laws.{has-none, has-and, has-with, has-without}
+use Rattle.sets.proofs.Laws.{has-none, has-and, has-with, has-without, has-minus}
 use Rattle.sets.specs.Sets.{most, has, meet}
 use Rattle.plan.specs.Limits.{latestPossible}
 use Rattle.sets.proofs.Members.{lowest-is, lowest-has, lowest-below, after-less}
 use Rattle.sets.specs.Lowest.{lowestOf, afterLowest}
-use Rattle.network.specs.Network.{predsAt, nextAt, nearAt, resourceAt}
-use Rattle.network.proofs.Links.{has-minus}
-use Rattle.candidates.specs.Work.{endAt, readyAt, latestOf, Timed, Released, Readied, Contests, readyFrom}
+use Rattle.network.specs.Network.{predsAt, nearAt}
+use Rattle.candidates.specs.Work.{endAt, readyAt, latestOf, Timed, opens, Released, Readied, readyFrom}
 use Rattle.candidates.proofs.Folds.{latest-same}
 
 -- The member i is taken off the set m, and m′ is left.
@@ -96,10 +94,6 @@ gathered fits all {m} j none so-far =
 
 -- ---- what waits for nothing left is made ready
 
--- Of the set `new`.
-abbrev frees : List ℕ → ℕ → ℕ → ℕ → Bool
-frees t left new j = has new j && not (meet (predsAt t j) left)
-
 -- All of the set but the members of `rest` have been looked at.
 pub record Releasing (t : List ℕ) (left cands new : ℕ) (w₀ w : List ℕ) (all rest : ℕ) : Type 0 where
   pub timed : Timed t w
@@ -107,10 +101,10 @@ pub record Releasing (t : List ℕ) (left cands new : ℕ) (w₀ w : List ℕ) (
   pub rest-low : rest < 2 ^ most
   pub inside : (j : ℕ) → has rest j ≡ true → has new j ≡ true
   pub found : (j : ℕ)
-      → (has all j || (has rest j && not (meet (predsAt t j) left))) ≡ (has cands j || frees t left new j)
-  pub readied : (j : ℕ) → j < most → has rest j ≡ false → frees t left new j ≡ true
+      → (has all j || (has rest j && not (meet (predsAt t j) left))) ≡ (has cands j || opens t left new j)
+  pub readied : (j : ℕ) → j < most → has rest j ≡ false → opens t left new j ≡ true
       → readyAt w j ≡ latestOf w₀ (nearAt t j)
-  pub same : (k : ℕ) → ((j : ℕ) → j < most → frees t left new j ≡ true → k ≡ readyFrom + j → ⊥)
+  pub same : (k : ℕ) → ((j : ℕ) → j < most → opens t left new j ≡ true → k ≡ readyFrom + j → ⊥)
       → getD w k 0 ≡ getD w₀ k 0
 
 module _ (t : List ℕ) (left cands new : ℕ) (w : List ℕ) where
@@ -174,7 +168,7 @@ module _ (t : List ℕ) (left cands new : ℕ) (w : List ℕ) where
         → Releasing t left cands new w (set w′ (readyFrom + j) x) (bitOr all (2 ^ j)) rest′
     release-with x n e =
         let ends : (k : ℕ) → k < most → endAt w′ k ≡ endAt w k = λ k l. so-far .same k (λ b l′ h q. omega arith) in
-        let mine : frees t left new j ≡ true = both (so-far .inside j (turn .there)) (ap not n) in
+        let mine : opens t left new j ≡ true = both (so-far .inside j (turn .there)) (ap not n) in
         record {
           timed =
               record {
@@ -212,10 +206,10 @@ module _ (t : List ℕ) (left cands new : ℕ) (w : List ℕ) where
         subst (λ y. Releasing t left cands new w w″ y rest′) (sym at-all)
         (subst (λ y. Releasing t left cands new w y (bitOr all (2 ^ j)) rest′) (sym at-w) (release-with x n e))
 
--- What has i as a nearest predecessor has been looked at.
-pub released : (t : List ℕ) (left cands i : ℕ) (w : List ℕ) {w′ : List ℕ} {all rest : ℕ}
-    → Releasing t left cands (nextAt t i) w w′ all rest → rest ≡ 0 → Released t left cands i w w′ all
-released t left cands i w {w′} {all} so-far none =
+-- The whole set has been looked at.
+pub released : (t : List ℕ) (left cands new : ℕ) (w : List ℕ) {w′ : List ℕ} {all rest : ℕ}
+    → Releasing t left cands new w w′ all rest → rest ≡ 0 → Released t left cands new w w′ all
+released t left cands new w {w′} {all} so-far none =
     record {
       timed = so-far .timed;
       low = so-far .low;
@@ -224,30 +218,27 @@ released t left cands i w {w′} {all} so-far none =
       same = so-far .same;
     }
 
--- What is left and not placed has been looked at.
+-- What is left and not placed.
 module _ (t : List ℕ) (left placed new : ℕ) (is-new : new ≡ bitXor left (bitAnd left placed)) where
   has-new : (j : ℕ) → has new j ≡ (has left j && not (has placed j))
   has-new j = ap (λ (x : ℕ). has x j) is-new ∙ has-minus left placed j
 
-  pub readied-rest : (cands : ℕ) (w : List ℕ) {w′ : List ℕ} {all rest : ℕ} → cands ≡ bitAnd left placed
-      → Releasing t left cands new w w′ all rest → rest ≡ 0 → Readied t left placed w w′ all
-  readied-rest cands w {w′} {all} is-cands so-far none =
+  pub readied-rest : (cands : ℕ) {w w′ : List ℕ} {r : ℕ} → cands ≡ bitAnd left placed
+      → Released t left cands new w w′ r → Readied t left placed w w′ r
+  readied-rest cands is-cands made =
       record {
-        timed = so-far .timed;
-        low = so-far .low;
+        timed = made .timed;
+        low = made .low;
         found =
             λ j l.
-            gathered (λ k. not (meet (predsAt t k) left)) all j none (so-far .found j)
+            made .found j l
             ∙ ap₂ (λ (x y : Bool). x || (y && not (meet (predsAt t j) left)))
             (ap (λ (x : ℕ). has x j) is-cands ∙ has-and left placed j) (has-new j)
             ∙ placed-or-not (has left j) (has placed j) (not (meet (predsAt t j) left));
-        readied =
-            λ j l p q m.
-            so-far .readied j l (ap (λ (x : ℕ). has x j) none ∙ has-none j)
-            (both (has-new j ∙ both p (ap not q)) (ap not m));
+        readied = λ j l p q m. made .readied j l (both (has-new j ∙ both p (ap not q)) (ap not m));
         same =
             λ k other.
-            so-far .same k
+            made .same k
             (λ j l h.
             let two : (has left j && not (has placed j)) ≡ true =
             sym (has-new j) ∙ and-left (has new j) (not (meet (predsAt t j) left)) h in
@@ -260,7 +251,7 @@ module _ (t : List ℕ) (left placed new : ℕ) (is-new : new ≡ bitXor left (b
       placed-or-not true false z = refl
       placed-or-not false y z = refl
 
--- ---- rivals for a resource
+-- ---- two members
 
 -- Two members leave one after the lowest.
 pub two-members : (m i j : ℕ) → m < 2 ^ most → has m i ≡ true → has m j ≡ true → i ≢ j → 0 < afterLowest m
@@ -274,132 +265,3 @@ two-members m i j h a b ne =
     (ℕ-discrete i (lowestOf m))
     (λ e. more j (t .others j (λ q. ne (e ∙ sym q)) ∙ b))
     (λ other. more i (t .others i other ∙ a))
-
--- One that has been looked at, on the resource r.
-pub record Known (t : List ℕ) (all rest r : ℕ) : Type 0 where
-  pub one : ℕ
-  pub member : has all one ≡ true
-  pub done : has rest one ≡ false
-  pub wants : resourceAt t one ≡ r
-
--- All but the members of `rest` have been looked at, and `seen` are the resources that they want.
-pub record Rivals (t : List ℕ) (all many seen rest : ℕ) : Type 0 where
-  pub low : rest < 2 ^ most
-  pub few : many + rest ≤ all
-  pub inside : (j : ℕ) → has rest j ≡ true → has all j ≡ true
-  pub marked : (j : ℕ) → has all j ≡ true → has rest j ≡ false → has seen (resourceAt t j) ≡ true
-  pub known : (r : ℕ) → has seen r ≡ true → Known t all rest r
-  pub apart : many ≡ 0 → (j k : ℕ) → has all j ≡ true → has rest j ≡ false → has all k ≡ true → has rest k ≡ false
-      → resourceAt t j ≡ resourceAt t k → j ≡ k
-  pub some : 0 < many → 0 < afterLowest all
-
-module _ (t : List ℕ) (all : ℕ) (h : all < 2 ^ most) where
-  pub rivals-none : Rivals t all 0 0 all
-  rivals-none =
-      record {
-        low = h;
-        few = omega arith;
-        inside = λ j y. y;
-        marked = λ j y n. true-not-false y n;
-        known = λ r y. true-not-false y (has-none r);
-        apart = λ z j k y n. true-not-false y n;
-        some = λ l. absurd (omega arith);
-      }
-
-  module _ {many seen rest : ℕ} (so-far : Rivals t all many seen rest) where
-    pub rivals-are : rest ≡ 0 → Contests t all many
-    rivals-are none =
-        let done : (j : ℕ) → has rest j ≡ false = λ j. ap (λ (x : ℕ). has x j) none ∙ has-none j in
-        record {
-          none = λ z. record { apart = λ i j a b. so-far .apart z i j a (done i) b (done j) };
-          some = so-far .some;
-        }
-
-    module _ {rest′ i : ℕ} (turn : Turn rest rest′ i) where
-      still-in : (j : ℕ) → has rest′ j ≡ true → has all j ≡ true
-      still-in j y =
-          so-far .inside j (by-cases (ℕ-discrete j i) (λ e. ap (has rest) e ∙ turn .there)
-          (λ ne. sym (turn .others j ne) ∙ y))
-
-      -- i's own resource is seen besides.
-      abbrev also : ℕ
-      also = bitOr seen (2 ^ (resourceAt t i))
-
-      marked-also : (j : ℕ) → has all j ≡ true → has rest′ j ≡ false → has also (resourceAt t j) ≡ true
-      marked-also j y n =
-          by-cases
-          (ℕ-discrete j i)
-          (λ e.
-          has-with seen (resourceAt t i) (resourceAt t j)
-          ∙ ap (λ (b : Bool). has seen (resourceAt t j) || b)
-          (eq-eqb (resourceAt t j) (resourceAt t i) (ap (λ (x : ℕ). resourceAt t x) e))
-          ∙ or-true (has seen (resourceAt t j)))
-          (λ ne.
-          has-with seen (resourceAt t i) (resourceAt t j)
-          ∙ ap (λ (b : Bool). b || eqb (resourceAt t j) (resourceAt t i))
-          (so-far .marked j y (sym (turn .others j ne) ∙ n)))
-
-      -- What has been looked at stays so.
-      stays : (r : ℕ) → Known t all rest r → Known t all rest′ r
-      stays r k =
-          record {
-            one = k .one;
-            member = k .member;
-            done = turn .others (k .one) (λ e. true-not-false (ap (has rest) e ∙ turn .there) (k .done)) ∙ k .done;
-            wants = k .wants;
-          }
-
-      known-also : (r : ℕ) → has also r ≡ true → Known t all rest′ r
-      known-also r y =
-          by-cases
-          (ℕ-discrete r (resourceAt t i))
-          (λ e. record { one = i; member = so-far .inside i (turn .there); done = turn .gone; wants = sym e })
-          (λ ne.
-          stays r
-          (so-far .known r
-          (sym (has-with seen (resourceAt t i) r ∙ ap (λ (b : Bool). has seen r || b) (ne-eqb r (resourceAt t i) ne)
-          ∙ or-false (has seen r)) ∙ y)))
-
-      -- i is the first on its resource.
-      pub rival-first : has seen (resourceAt t i) ≡ false
-          → Rivals t all many (bitOr seen (2 ^ (resourceAt t i))) rest′
-      rival-first new =
-          let clash : (j : ℕ) → j ≢ i → has all j ≡ true → has rest′ j ≡ false → resourceAt t j ≡ resourceAt t i → ⊥ =
-          λ j ne y n e. true-not-false (so-far .marked j y (sym (turn .others j ne) ∙ n)) (ap (has seen) e ∙ new) in
-          record {
-            low = turn .low;
-            few = omega (arith, so-far .few, turn .fewer);
-            inside = still-in;
-            marked = marked-also;
-            known = known-also;
-            apart =
-                λ z j k a n b m e.
-                by-cases
-                (ℕ-discrete j i)
-                (λ p. by-cases (ℕ-discrete k i) (λ q. p ∙ sym q)
-                (λ ne. absurd (clash k ne b m (sym e ∙ ap (λ (x : ℕ). resourceAt t x) p))))
-                (λ ne.
-                by-cases
-                (ℕ-discrete k i)
-                (λ q. absurd (clash j ne a n (e ∙ ap (λ (x : ℕ). resourceAt t x) q)))
-                (λ ne′. so-far .apart z j k a (sym (turn .others j ne) ∙ n) b (sym (turn .others k ne′) ∙ m) e));
-            some = so-far .some;
-          }
-
-      -- Another has been seen there: it is no member of `rest`, and i is.
-      pub rival-again : has seen (resourceAt t i) ≡ true
-          → Rivals t all (many + 1) (bitOr seen (2 ^ (resourceAt t i))) rest′
-      rival-again old =
-          let other = so-far .known (resourceAt t i) old in
-          record {
-            low = turn .low;
-            few = omega (arith, so-far .few, turn .fewer);
-            inside = still-in;
-            marked = marked-also;
-            known = known-also;
-            apart = λ z. absurd (omega arith);
-            some =
-                λ l.
-                two-members all i (other .one) h (so-far .inside i (turn .there)) (other .member)
-                (λ e. true-not-false (turn .there) (ap (has rest) e ∙ other .done));
-          }

@@ -1,18 +1,16 @@
 -- The working array of the search: the end of each frozen activity, when the predecessors of each candidate have
 -- ended, and the last frozen end on each resource; and what the functions that read it find.
-use Prim.Native.Nat.{ℕ, _+_, _-_, _*_, _/_, _%_, _^_, _≤_, _<_, max}
+use Prim.Native.Nat.{ℕ, _+_, _-_, _*_, _^_, _≤_, _<_, max}
 use mathlib.Core.Bool.{Bool, true, false, cond, not, _&&_, _||_}
 use mathlib.Core.List.{List}
 use mathlib.Core.Path.{_≡_}
 use lib.Bits.{bitAnd}
-use lib.Dec.{eqb, ltb}
 use lib.ListN.{length, getD}
 use Rattle.base.specs.Below.{sumBelow, maxBelow}
 use Rattle.sets.specs.Sets.{most, has, meet, size, width}
 use Rattle.plan.specs.Limits.{mostResources, packing, longestDuration, latestPossible}
 use Rattle.scan.specs.Model.{never, leastBelow}
-use Rattle.sets.specs.Lowest.{afterLowest}
-use Rattle.network.specs.Network.{packedAt, predsAt, nextAt, nearAt, onAt, durationAt, resourceAt}
+use Rattle.network.specs.Network.{packedAt, predsAt, nearAt, onAt, durationAt, resourceAt}
 
 -- Where the second and the third part begin, and the length of the whole.
 abbrev pub readyFrom : ℕ
@@ -51,43 +49,28 @@ keyAt t w i = packing * soonAt t w i + packedAt t i
 unfoldable pub leastAt : List ℕ → List ℕ → ℕ → ℕ
 leastAt t w cands = leastBelow most λ i. cond (has cands i) (keyAt t w i) never
 
--- The end of a candidate where it is a choice at the key, or `never`.
-unfoldable pub choiceAt : List ℕ → List ℕ → ℕ → ℕ → ℕ
-choiceAt t w key i =
-    cond (eqb (resourceAt t i) (key % packing) && ltb (soonAt t w i) (key / packing)) (finishAt t w i) never
-
 -- No time is later than a session can end, so that a sum of times and a key fit a word.
 pub record Timed (t w : List ℕ) : Type 0 where
   pub durations : (i : ℕ) → i < most → durationAt t i ≤ longestDuration
   pub times : (k : ℕ) → getD w k 0 ≤ latestPossible
   pub size : length w ≡ workCells
 
--- Activity j waits for i alone, where `left` is left with i frozen.
+-- Of the set `new`, activity j waits for nothing that is left.
 abbrev pub opens : List ℕ → ℕ → ℕ → ℕ → Bool
-opens t left i j = has (nextAt t i) j && not (meet (predsAt t j) left)
+opens t left new j = has new j && not (meet (predsAt t j) left)
 
--- The candidates that the end of i adds, with the time from which each is ready.
-pub record Released (t : List ℕ) (left cands i : ℕ) (w w′ : List ℕ) (r : ℕ) : Type 0 where
+-- The candidates with those of `new` that wait for nothing, each with the time from which it is ready.
+pub record Released (t : List ℕ) (left cands new : ℕ) (w w′ : List ℕ) (r : ℕ) : Type 0 where
   pub timed : Timed t w′
   pub low : r < 2 ^ most
-  pub found : (j : ℕ) → j < most → has r j ≡ (has cands j || opens t left i j)
-  pub readied : (j : ℕ) → j < most → opens t left i j ≡ true → readyAt w′ j ≡ latestOf w (nearAt t j)
+  pub found : (j : ℕ) → j < most → has r j ≡ (has cands j || opens t left new j)
+  pub readied : (j : ℕ) → j < most → opens t left new j ≡ true → readyAt w′ j ≡ latestOf w (nearAt t j)
   pub same :
-      (k : ℕ) → ((j : ℕ) → j < most → opens t left i j ≡ true → k ≡ readyFrom + j → ⊥) → getD w′ k 0 ≡ getD w k 0
-
--- Those of a set that have no predecessor in it.
-pub record Opened (t : List ℕ) (set r : ℕ) : Type 0 where
-  pub low : r < 2 ^ most
-  pub found : (i : ℕ) → i < most → has r i ≡ (has set i && not (meet (predsAt t i) set))
+      (k : ℕ) → ((j : ℕ) → j < most → opens t left new j ≡ true → k ≡ readyFrom + j → ⊥) → getD w′ k 0 ≡ getD w k 0
 
 -- No resource is wanted by two of the set.
 pub record Uncontested (t : List ℕ) (set : ℕ) : Type 0 where
   pub apart : (i j : ℕ) → has set i ≡ true → has set j ≡ true → resourceAt t i ≡ resourceAt t j → i ≡ j
-
--- How many of the set come after the first on their resource, as far as it is known.
-pub record Contests (t : List ℕ) (set r : ℕ) : Type 0 where
-  pub none : r ≡ 0 → Uncontested t set
-  pub some : 0 < r → 0 < afterLowest set
 
 -- How many of a set come after the first on their resource.
 unfoldable pub crowd : List ℕ → ℕ → ℕ

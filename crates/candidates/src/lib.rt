@@ -1,4 +1,4 @@
-// Earliest starts, the next contested tick, and the choices on it.
+// Earliest starts, the next tick on which something ends, and what a freeze releases.
 use network::NEAR;
 use network::NEXT;
 use network::PACKING;
@@ -13,11 +13,10 @@ use sets::lowest;
 ghost use mathlib.Core.Path.{_≡_};
 ghost use Prim.Native.Nat.{_^_, _<_, _/_, _+_, max, min, _*_};
 ghost use lib.ListN.{set};
-ghost use Rattle.sets.specs.Sets.{most, has, width};
-ghost use Rattle.sets.specs.Lowest.{afterLowest};
-ghost use Rattle.network.specs.Network.{Linked, Grouped};
-ghost use Rattle.candidates.specs.Work.{latestOf, soonAt, finishAt, keyAt, leastAt, choiceAt, Timed, Released};
-ghost use Rattle.candidates.specs.Work.{Opened, Contests, crowd, Readied};
+ghost use Rattle.sets.specs.Sets.{most, width};
+ghost use Rattle.network.specs.Network.{Linked, Grouped, nextAt};
+ghost use Rattle.candidates.specs.Work.{latestOf, soonAt, finishAt, keyAt, leastAt, Timed, Released};
+ghost use Rattle.candidates.specs.Work.{crowd, Readied};
 ghost use Rattle.plan.specs.Limits.{packing, mostResources};
 ghost use Rattle.candidates.specs.Work.{endAt, readyAt, freeAt, readyFrom, freeFrom};
 
@@ -26,9 +25,9 @@ pub const NEVER: u32 = 4294967295;
 
 // The working array has the end of each frozen activity, then when the predecessors of each candidate have ended,
 // then the last frozen end on each resource.
-pub const READY: usize = WIDTH;
+const READY: usize = WIDTH;
 
-pub const FREE: usize = 2 * WIDTH;
+const FREE: usize = 2 * WIDTH;
 
 pub const WORK_CELLS: usize = FREE + MOST_RESOURCES as usize;
 
@@ -98,7 +97,7 @@ pub fn latest(work: &Work, set: u32) -> u32
     let mut rest = set;
     while rest != 0 {
         let i = lowest(rest);
-        last = later(last, work[i]);
+        last = later(last, end_of(work, i));
         rest = after_lowest(rest);
     }
     last
@@ -109,8 +108,9 @@ pub fn earliest_start(table: &Table, work: &Work, i: usize) -> u32
     requires { ⌜ i < most ⌝ }
     ensures { λ r. ⌜ r ≡ soonAt (now (table .entry)) (now (work .entry)) i ⌝ }
 {
-    let r = resource_of(table[i]);
-    later(work[READY + i], work[FREE + r])
+    let ready = ready_of(work, i);
+    let free = free_of(work, resource_of(table[i]));
+    later(ready, free)
 }
 
 // The end of a candidate that starts as soon as it can.
@@ -129,7 +129,7 @@ fn key_of(table: &Table, work: &Work, i: usize) -> u32
     PACKING * earliest_start(table, work, i) + table[i]
 }
 
-// The least key of the candidates: the next contested tick, and the lowest resource contested on it.
+// The least key of a set: the next tick on which one of it ends, and the lowest resource of those that do.
 pub fn least_key(table: &Table, work: &Work, cands: u32) -> u32
     requires { ⌜ (cands < 2 ^ most) × Timed (now table) (now work) ⌝ }
     ensures { λ r. ⌜ r ≡ leastAt (now (table .entry)) (now (work .entry)) cands ⌝ }
@@ -151,89 +151,47 @@ pub fn tick_of(key: u32) -> u32
     key / PACKING
 }
 
-// The end of candidate i where it is a choice at the key, or NEVER.
-pub fn choice_end(table: &Table, work: &Work, key: u32, i: usize) -> u32
-    requires { ⌜ (i < most) × Timed (now table) (now work) ⌝ }
-    ensures { λ r. ⌜ r ≡ choiceAt (now (table .entry)) (now (work .entry)) key i ⌝ }
-{
-    let w = table[i];
-    if resource_of(w) != resource_of(key) {
-        return NEVER;
-    }
-    let start = earliest_start(table, work, i);
-    if tick_of(key) <= start {
-        return NEVER;
-    }
-    start + duration_of(w)
-}
-
-// The candidates once i is frozen, where `left` is what is left; the new ones are made ready.
-pub fn release(table: &Table, work: &mut Work, left: u32, cands: u32, i: usize) -> u32
-    requires { ⌜ (i < most) × (cands < 2 ^ most) × Linked (now table) × Timed (now table) (now work) ⌝ }
-    ensures { λ r. ⌜ Released (now (table .entry)) left cands i (now (work .entry)) (now (work .exit)) r ⌝ }
+// The candidates with those of `new` that have no predecessor left, which are made ready.
+fn make_ready(table: &Table, work: &mut Work, left: u32, cands: u32, new: u32) -> u32
+    requires { ⌜ (cands < 2 ^ most) × (new < 2 ^ most) × Linked (now table) × Timed (now table) (now work) ⌝ }
+    ensures { λ r. ⌜ Released (now (table .entry)) left cands new (now (work .entry)) (now (work .exit)) r ⌝ }
 {
     let mut all = cands;
-    let mut rest = table[NEXT + i];
+    let mut rest = new;
     while rest != 0 {
         let j = lowest(rest);
         rest = after_lowest(rest);
         if !sets::meets(table[PREDS + j], left) {
             let from = latest(work, table[NEAR + j]);
-            work[READY + j] = from;
+            store_ready(work, j, from);
             all = sets::union(all, sets::single(j));
         }
     }
     all
 }
 
-// How many of a set come after the first on their resource.
-fn rivals(table: &Table, set: u32) -> u32
-    requires { ⌜ set < 2 ^ most ⌝ }
-    ensures { λ r. ⌜ Contests (now (table .entry)) set r ⌝ }
+// The candidates once i is frozen, where `left` is what is left.
+pub fn release(table: &Table, work: &mut Work, left: u32, cands: u32, i: usize) -> u32
+    requires { ⌜ (i < most) × (cands < 2 ^ most) × Linked (now table) × Timed (now table) (now work) ⌝ }
+    ensures { λ r.
+        ⌜ Released (now (table .entry)) left cands (nextAt (now (table .entry)) i) (now (work .entry))
+        (now (work .exit)) r ⌝ }
 {
-    let mut many = 0;
-    let mut seen = 0;
-    let mut rest = set;
-    while rest != 0 {
-        let i = lowest(rest);
-        rest = after_lowest(rest);
-        let r = resource_of(table[i]);
-        let again = sets::contains(seen, r);
-        seen = sets::union(seen, sets::single(r));
-        if again {
-            many += 1;
-        }
-    }
-    many
+    make_ready(table, work, left, cands, table[NEXT + i])
 }
 
-// The same where `known` are known of: they are counted only where none is.
-pub fn contests(table: &Table, set: u32, known: u32) -> u32
-    requires { ⌜ (set < 2 ^ most) × (0 < known → 0 < afterLowest set) ⌝ }
-    ensures { λ r. ⌜ Contests (now (table .entry)) set r ⌝ }
+// What is left and placed, and of the rest what has no predecessor left.
+pub fn ready_rest(table: &Table, work: &mut Work, left: u32, placed: u32) -> u32
+    requires { ⌜ (left < 2 ^ most) × (placed < 2 ^ most) × Linked (now table) × Timed (now table) (now work) ⌝ }
+    ensures { λ r. ⌜ Readied (now (table .entry)) left placed (now (work .entry)) (now (work .exit)) r ⌝ }
 {
-    if known == 0 {
-        rivals(table, set)
-    } else {
-        known
-    }
-}
-
-// Those of a set that have no predecessor in it.
-pub fn opened(table: &Table, set: u32) -> u32
-    requires { ⌜ set < 2 ^ most ⌝ }
-    ensures { λ r. ⌜ Opened (now (table .entry)) set r ⌝ }
-{
-    let mut all = 0;
-    let mut rest = set;
-    while rest != 0 {
-        let i = lowest(rest);
-        rest = after_lowest(rest);
-        if !sets::meets(table[PREDS + i], set) {
-            all = sets::union(all, sets::single(i));
-        }
-    }
-    all
+    make_ready(
+        table,
+        work,
+        left,
+        sets::common(left, placed),
+        sets::minus(left, placed),
+    )
 }
 
 // How many of a set come after the first on their resource.
@@ -255,23 +213,4 @@ pub fn crowding(table: &Table, set: u32) -> u32
         }
     }
     many
-}
-
-// What is left and has no predecessor left, made ready where it is not placed.
-pub fn ready_rest(table: &Table, work: &mut Work, left: u32, placed: u32) -> u32
-    requires { ⌜ (left < 2 ^ most) × (placed < 2 ^ most) × Linked (now table) × Timed (now table) (now work) ⌝ }
-    ensures { λ r. ⌜ Readied (now (table .entry)) left placed (now (work .entry)) (now (work .exit)) r ⌝ }
-{
-    let mut all = sets::common(left, placed);
-    let mut rest = sets::minus(left, placed);
-    while rest != 0 {
-        let i = lowest(rest);
-        rest = after_lowest(rest);
-        if !sets::meets(table[PREDS + i], left) {
-            let from = latest(work, table[NEAR + i]);
-            store_ready(work, i, from);
-            all = sets::union(all, sets::single(i));
-        }
-    }
-    all
 }

@@ -16,11 +16,10 @@ use Rattle.base.proofs.Bools.{by-bool, true-not-false, both, and-left, and-righ
 use Rattle.plan.specs.Limits.{packing, longestDuration, latestPossible, wordValues}
 use Rattle.sets.specs.Sets.{most, has, meet}
 use Rattle.sets.specs.Lowest.{lowestOf, afterLowest}
-use Rattle.sets.proofs.Laws.{has-none, has-single}
+use Rattle.sets.proofs.Laws.{has-none, has-single, has-minus}
 use Rattle.sets.proofs.Members.{members, membersBelow, fold-members, turn, ended}
 use Rattle.scan.specs.Model.{never, leastBelow}
 use Rattle.network.specs.Network.{packedAt, predsAt, resourceAt}
-use Rattle.network.proofs.Links.{has-minus}
 use Rattle.candidates.specs.Work.{readyAt, freeAt, readyFrom, freeFrom, Timed}
 use Rattle.candidates.proofs.Turns.{Turn, with-low, gather-more, gather-less, gathered}
 use Rattle.moves.specs.Moves.{Attaches, waitingIn, canStart}
@@ -134,10 +133,10 @@ module _ (fits : ℕ → Bool) (all set : ℕ) where
 -- ---- what can start is made ready
 
 -- It is held by nothing in T, and its resource is free.
-abbrev pub unheld : List ℕ → List ℕ → Line → ℕ → Bool
+abbrev unheld : List ℕ → List ℕ → Line → ℕ → Bool
 unheld t w l i = not (meet (predsAt t i) (l .term)) && leb (freeAt w (resourceAt t i)) (l .tick)
 
-abbrev pub keyFrom : List ℕ → Line → ℕ → ℕ
+abbrev keyFrom : List ℕ → Line → ℕ → ℕ
 keyFrom t l i = packing * l .tick + packedAt t i
 
 pub tick-fits : (tick : ℕ) → tick ≤ latestPossible → packing * tick < wordValues

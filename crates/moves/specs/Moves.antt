@@ -1,9 +1,9 @@
 -- The steps of a move on the sets of a line and the working array.
-use Prim.Native.Nat.{ℕ, _+_, _*_, _^_, _<_, min}
+use Prim.Native.Nat.{ℕ, _+_, _-_, _*_, _^_, _<_, min}
 use mathlib.Core.Bool.{Bool, true, not, cond, _&&_}
 use mathlib.Core.List.{List}
 use mathlib.Core.Path.{_≡_}
-use lib.Bits.{bitAnd, bitXor}
+use lib.Bits.{bitAnd, bitOr, bitXor}
 use lib.Dec.{leb, eqb}
 use lib.ListN.{getD}
 use Rattle.plan.specs.Limits.{packing}
@@ -29,6 +29,19 @@ waitingIn l = bitXor (l .left) (bitAnd (l .left) (l .placed))
 abbrev pub unfrozenIn : Line → ℕ
 unfrozenIn l = bitAnd (l .placed) (l .left)
 
+-- The line with i frozen, with r for T, with new ones placed, and at the tick x.
+abbrev pub frozenLine : Line → ℕ → Line
+frozenLine l i = record { tick = l .tick; placed = l .placed; left = l .left - 2 ^ i; term = l .term }
+
+abbrev pub deletedLine : Line → ℕ → Line
+deletedLine l r = record { tick = l .tick; placed = l .placed; left = l .left; term = r }
+
+abbrev pub attachedLine : Line → ℕ → ℕ → Line
+attachedLine l r new = record { tick = l .tick; placed = bitOr (l .placed) new; left = l .left; term = r }
+
+abbrev pub movedLine : Line → ℕ → Line
+movedLine l x = record { tick = x; placed = l .placed; left = l .left; term = l .term }
+
 -- Step 2.
 unfoldable pub nextStop : List ℕ → Line → ℕ → ℕ
 nextStop w l end = min end (leastBelow most λ i. cond (has (runningIn l) i) (endAt w i) never)
@@ -52,3 +65,14 @@ pub record Attaches (t : List ℕ) (l : Line) (key : ℕ) (w w′ : List ℕ) (r
   pub same : (k : ℕ) → ((i : ℕ) → i < most → canStart t w l i ≡ true → k ≡ readyFrom + i → ⊥) → getD w′ k 0 ≡ getD w k 0
   pub least : r .key
       ≡ min key (leastBelow most λ i. cond (canStart t w l i) (packing * l .tick + packedAt t i) never)
+
+-- Step 1: r is the line at tick 0 with what can start there, before which nothing is placed.
+abbrev pub emptyLine : ℕ → Line
+emptyLine present = record { tick = 0; placed = 0; left = present; term = present }
+
+pub record Starts (t : List ℕ) (present : ℕ) (w w′ : List ℕ) (r : Line) : Type 0 where
+  pub tick : r .tick ≡ 0
+  pub left : r .left ≡ present
+  pub term : r .term ≡ present
+  pub key : ℕ
+  pub attaches : Attaches t (emptyLine present) never w w′ (record { new = r .placed; key = key })

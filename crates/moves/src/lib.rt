@@ -1,4 +1,5 @@
 // The steps of a move of the scan (document 000, section 4.2).
+use candidates::NEVER;
 use candidates::Work;
 use candidates::end_of;
 use candidates::free_of;
@@ -16,13 +17,14 @@ use network::resource_of;
 use sets::after_lowest;
 use sets::lowest;
 ghost use mathlib.Core.Path.{_≡_};
-ghost use Prim.Native.Nat.{_^_, _<_, _≤_, _+_, max};
+ghost use Prim.Native.Nat.{_^_, _<_, _≤_, _+_, _-_, max};
+ghost use mathlib.Core.Bool.{true};
 ghost use lib.ListN.{set};
 ghost use Rattle.plan.specs.Limits.{latestPossible};
-ghost use Rattle.sets.specs.Sets.{most};
+ghost use Rattle.sets.specs.Sets.{most, has};
 ghost use Rattle.network.specs.Network.{durationAt, resourceAt};
 ghost use Rattle.candidates.specs.Work.{Timed, readyAt, freeFrom};
-ghost use Rattle.moves.specs.Moves.{Sets, runningIn, waitingIn, unfrozenIn, nextStop, Deletes, Attaches};
+ghost use Rattle.moves.specs.Moves.{Sets, runningIn, waitingIn, unfrozenIn, nextStop, Deletes, Attaches, Starts};
 ghost use Rattle.moves.specs.declared.Attached.{Attached};
 ghost use Rattle.moves.specs.declared.Line.{Line};
 
@@ -56,6 +58,22 @@ pub fn unfrozen(line: Line) -> u32
     sets::common(line.placed, line.left)
 }
 
+// Step 1: the start activities are attached to the empty diagram at tick 0, T being all that is present.
+pub fn start(table: &Table, work: &mut Work, present: u32) -> Line
+    requires { ⌜ (present < 2 ^ most) × Timed (now table) (now work) ⌝ }
+    ensures { λ r. ⌜ Starts (now (table .entry)) present (now (work .entry)) (now (work .exit)) r ⌝ }
+{
+    let mut line = Line {
+        tick: 0,
+        placed: 0,
+        left: present,
+        term: present,
+    };
+    let attached = attach(table, work, line, NEVER);
+    line.placed = attached.new;
+    line
+}
+
 // Step 2: the next stopping time, where `end` is the first end of those placed and not frozen.
 pub fn move_line(work: &Work, line: Line, end: u32) -> u32
     requires { ⌜ Sets line ⌝ }
@@ -71,8 +89,21 @@ pub fn move_line(work: &Work, line: Line, end: u32) -> u32
     next
 }
 
-// Step 3, of a conflict: the selected activity j is frozen, and its resource, which was free from `free` on, is so from
-// its end on. That shifts the others that are placed on it.
+// Step 3, first: a conflict-free activity is frozen where it stands. It ends on the scan-line.
+pub fn freeze(work: &mut Work, line: Line, i: usize) -> Line
+    requires { ⌜ (i < most) × (has (line .left) i ≡ true) ⌝ }
+    ensures { λ r.
+        ⌜ (r .tick ≡ line .tick) × (r .placed ≡ line .placed) × (r .left ≡ line .left - 2 ^ i) × (r .term ≡ line .term)
+        × (now (work .exit) ≡ set (now (work .entry)) i (line .tick)) ⌝ }
+{
+    let mut next = line;
+    next.left = sets::without(line.left, i);
+    store_end(work, i, line.tick);
+    next
+}
+
+// Step 3, then: a conflict is resolved. The selected activity j is frozen, and its resource, which was free from `free`
+// on, is so from its end on. That shifts the others that are placed on it.
 pub fn resolve(table: &Table, work: &mut Work, j: usize, free: u32) -> u32
     requires { ⌜ (j < most) × (free ≤ latestPossible) × Timed (now table) (now work) ⌝ }
     ensures { λ r.

@@ -3,7 +3,7 @@ use Prim.Native.Nat.{ℕ, _+_, _^_, _≤_, _<_}
 use native.Mathlib.Nat.{lt-of-le-of-lt}
 use native.Mathlib.Decide.{ℕ-discrete, decLt}
 use native.Mathlib.Omega.{arith}
-use mathlib.Core.Bool.{Bool, true, false, cond, not, xor, _&&_, _||_, and-false, and-true, or-true, or-false}
+use mathlib.Core.Bool.{Bool, true, false, cond, not, _&&_, _||_, and-false, and-true, or-true, or-false}
 use mathlib.Core.List.{List}
 use mathlib.Core.Logic.{_≢_, by-cases}
 use mathlib.Core.Path.{_≡_, refl, sym, ap, ap₂, _∙_, subst}
@@ -14,7 +14,7 @@ use lib.Pow.{pow-lt}
 use lib.Seq.{getD-set-same, getD-set-other}
 use borrow.Author.Tests.{eq-eqb, ne-eqb}
 use Rattle.base.proofs.Bools.{by-bool, true-not-false, and-left, cond-true, cond-false}
-use Rattle.sets.proofs.Laws.{has-none, has-and, has-xor, has-with, has-without}
+use Rattle.sets.proofs.Laws.{has-none, has-with, has-without, has-minus}
 use Rattle.sets.specs.Sets.{most, has}
 use Rattle.sets.proofs.Members.{lowest-is, lowest-below, lowest-has, after-less, after-has}
 use Rattle.sets.specs.Lowest.{lowestOf, afterLowest}
@@ -23,15 +23,6 @@ use Rattle.network.specs.Network.{words}
 use Rattle.network.specs.Steps.{Nearest, LinkedNext, Blank, Links}
 
 -- ---- the nearest members of a set
-
-less : (x y : Bool) → xor x (x && y) ≡ (x && not y)
-unfolding xor
-less true true = refl
-less true false = refl
-less false y = refl
-
-pub has-minus : (a b k : ℕ) → has (bitXor a (bitAnd a b)) k ≡ (has a k && not (has b k))
-has-minus a b k = has-xor a (bitAnd a b) k ∙ ap (xor (has a k)) (has-and a b k) ∙ less (has a k) (has b k)
 
 -- The members before those of `rest` have been looked at.
 pub record Nearing (t : List ℕ) (set near rest : ℕ) : Type 0 where

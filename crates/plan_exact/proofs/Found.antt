@@ -19,11 +19,13 @@ use Rattle.schedule.proofs.Lower.{work-bound}
 use Rattle.schedule.proofs.Box.{session-is, session-mem}
 use Rattle.branching.proofs.Rank.{before}
 use Rattle.scan.specs.Model.{Problem, starts, found, scanOf, problemOf, lastEnd}
+use Rattle.scan.specs.Scan.{schedules}
 use Rattle.scan.proofs.Starts.{starts-length, starts-front}
 use Rattle.scan_exact.proofs.Shows.{Models}
 use Rattle.scan_exact.proofs.Leaf.{Leaf, leaf-marked, leaf-makespan}
 use Rattle.scan_exact.proofs.Complete.{scanned-leaf, scanned-some}
 use Rattle.scan_exact.proofs.Found.{found-perm, found-session}
+use Rattle.scan_exact.proofs.Schedules.{schedules-perm}
 use Rattle.variant.specs.Project.{variantAt, projectOf}
 use Rattle.term.specs.Valid.{HasVariant}
 use Rattle.variant.proofs.Instance.{resourceOf, acts-between, bench}
@@ -51,6 +53,11 @@ module _ (p : Plan) (t : Term) (v : ℕ) (c : HasVariant p t v) (x : Variant) (h
     pub variant-perm : Perm (map (starts q N) (scanOf x)) (sessions P mark)
     unfolding projectOf found
     variant-perm = found-perm P (resourceOf p) benched q (x .present) given (before P) (ranked p t v c)
+
+    -- So is what the scan of document 000 gives.
+    pub variant-scan : Perm (schedules q N (x .present)) (sessions P mark)
+    unfolding projectOf
+    variant-scan = schedules-perm P (resourceOf p) benched q (x .present) given (before P) (ranked p t v c)
 
     pub variant-some : (ends : List ℕ) × List·Memᴰ ends (scanOf x)
     variant-some = scanned-some P (resourceOf p) benched q (x .present) given (before P) (ranked p t v c)

@@ -10,7 +10,6 @@ use Rattle.plan.specs.Plan.{nodesOf, isNode}
 use Rattle.base.specs.Lists.{every}
 use Rattle.sets.specs.Sets.{most}
 use Rattle.term.specs.Term.{Term, termOf}
-use Rattle.term.specs.Variants.{activities}
 use Rattle.variant.specs.Tables.{OrderOf}
 use Rattle.precedence.specs.declared.Order.{Order}
 

@@ -73,7 +73,7 @@ choice-on p s k i y =
     eqb-true (p .resource i) (k % mostResources)
     (and-right (isOpen p s i) on (and-left (isOpen p s i && on) (ltb (earliest p s i) (k / mostResources)) y))
 
-choice-of : (p : Problem) (s : State) (k i : ℕ) → isOpen p s i ≡ true → p .resource i ≡ k % mostResources
+pub choice-of : (p : Problem) (s : State) (k i : ℕ) → isOpen p s i ≡ true → p .resource i ≡ k % mostResources
     → earliest p s i < k / mostResources → isChoice p s k i ≡ true
 unfolding isChoice
 choice-of p s k i o r l =
@@ -212,17 +212,17 @@ module _ (p : Problem) (s : State) (bounded : Bounded p s) (i : ℕ) (below : i 
             (omega (arith, bounded .soon r, one-fewer));
       }
 
-  key-of : keyOf p s i ≡ packing * finish p s i + p .resource i
+  pub key-of : keyOf p s i ≡ packing * finish p s i + p .resource i
   unfolding keyOf
   key-of = cond-true (packing * finish p s i + p .resource i) never o
 
-  key-small : key p s < never
+  pub key-small : key p s < never
   unfolding key
   key-small = omega (arith, least-le most (keyOf p s) i below, key-of, finish-bounded, bounded .known i)
 
 -- ---- a candidate of the least key is the one choice
 
-key-open : (p : Problem) (s : State) (i : ℕ) → keyOf p s i < never → isOpen p s i ≡ true
+pub key-open : (p : Problem) (s : State) (i : ℕ) → keyOf p s i < never → isOpen p s i ≡ true
 unfolding keyOf
 key-open p s i l =
     by-bool (isOpen p s i) (λ y. y)
@@ -257,7 +257,7 @@ module _ (p : Problem) (s : State) (i k : ℕ) (oi : isOpen p s i ≡ true) (ok 
       by-bool (has (p .preds i) k)
       (λ y. true-not-false (open-left p s k ok) (meet-not (p .preds i) (s .left) k (open-alone p s i oi) y)) (λ z. z)
 
-  ready-kept : ready p (freeze p s k) i ≡ ready p s i
+  pub ready-kept : ready p (freeze p s k) i ≡ ready p s i
   unfolding ready freeze
   ready-kept =
       max-eq most (λ j. cond (has (p .preds i) j) (getD (set (s .ends) k (finish p s k)) j 0) 0)
@@ -275,7 +275,7 @@ module _ (p : Problem) (s : State) (i k : ℕ) (oi : isOpen p s i ≡ true) (ok 
   finish-kept off =
       omega (arith, ready-kept, getD-set-other (s .avail) (p .resource k) (p .resource i) (finish p s k) 0 off)
 
-  open-kept : s .left < 2 ^ most → isOpen p (freeze p s k) i ≡ true
+  pub open-kept : s .left < 2 ^ most → isOpen p (freeze p s k) i ≡ true
   unfolding freeze
   open-kept low =
       let there : has (s .left) k ≡ true = open-left p s k ok in

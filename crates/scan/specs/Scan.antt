@@ -78,7 +78,7 @@ module _ (q : Problem) where
         term = d .term;
       }
 
-  -- Step 3. The conflict-free activities are frozen.
+  -- Step 3, first: the conflict-free activities are frozen.
   unfoldable pub freeze : Diagram → Diagram
   freeze d =
       record {
@@ -89,7 +89,7 @@ module _ (q : Problem) where
         term = d .term;
       }
 
-  -- A conflict is resolved: the selected activity is frozen, and the other scan-line activities that require its
+  -- Then a conflict is resolved: the selected activity is frozen, and the other scan-line activities that require its
   -- resource are shifted behind it.
   unfoldable pub select : Diagram → ℕ → Diagram
   select d j =
@@ -101,7 +101,7 @@ module _ (q : Problem) where
         term = d .term;
       }
 
-  -- Every conflict is, by a combination.
+  -- Step 3: both, for every contested resource, by a combination.
   unfoldable pub resolve : List ℕ → Diagram → Diagram
   resolve c d = foldl select (freeze d) c
 

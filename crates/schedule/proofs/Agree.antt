@@ -8,7 +8,7 @@ use mathlib.Core.Bool.{Bool, true}
 use mathlib.Core.Path.{_≡_, sym, _∙_, ap₂}
 use mathlib.Core.Logic.{by-cases}
 use Rattle.schedule.specs.Project.{Project}
-use Rattle.schedule.specs.Schedule.{Starts, load, latestEnd, feasible, moved, active, earliestStart, makespan}
+use Rattle.schedule.specs.Schedule.{Starts, load, latestEnd, moved, earliestStart, makespan}
 use Rattle.base.proofs.Bools.{by-bool}
 use Rattle.schedule.proofs.Load.{Has, among, load-mono, latest-mono, moved-same, moved-other}
 use Rattle.schedule.proofs.Reflect.{Feasible, Active}

@@ -3,13 +3,13 @@
 use Prim.Native.Nat.{ℕ, _+_, _≤_, _<_}
 use native.Mathlib.Decide.{ℕ-discrete, decLt, decLe}
 use native.Mathlib.Omega.{arith}
-use mathlib.Core.Bool.{Bool, true}
+use mathlib.Core.Bool.{true}
 use mathlib.Core.Path.{_≡_, _∙_, ap}
 use mathlib.Core.Logic.{by-cases}
 use Rattle.schedule.specs.Project.{Project}
 use Rattle.schedule.specs.Schedule.{Starts, endOf, load, moved}
 use Rattle.base.proofs.Bools.{true-not-false}
-use Rattle.schedule.proofs.Load.{Has, Sound, Runs, among, load-mono, load-mono-but, units-in-load, moved-same}
+use Rattle.schedule.proofs.Load.{Has, Sound, load-mono, load-mono-but, units-in-load, moved-same}
 use Rattle.schedule.proofs.Load.{moved-other}
 use Rattle.schedule.proofs.Reflect.{Feasible}
 

@@ -1,5 +1,5 @@
 -- A project: the activities of one variant, with all that a schedule of them has to respect. Activities are numbered
--- below `size`, resources (resources in the paper's words) below `resources`.
+-- below `size`, resources (devices in the paper's words) below `resources`.
 use Prim.Native.Nat.{ℕ}
 use mathlib.Core.Bool.{Bool}
 

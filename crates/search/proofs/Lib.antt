@@ -1,10 +1,6 @@
--- What the proofs of the search share: a candidate and the state below it, the branches of a state, what a schedule is
--- seen by, what needs no branch, and the root.
-pub mod Parts
-pub mod Candidate
-pub mod Child
-pub mod Stored
+-- What the proofs of the search share: the branches of a state, what is left on one resource, the choices at a stop, and
+-- the root.
 pub mod Branches
-pub mod Same
-pub mod Settled
+pub mod Lone
+pub mod Descended
 pub mod Entry

@@ -1,2 +1,2 @@
 -- What the search's contracts say.
-pub mod Standing
+pub mod Lone

@@ -1,18 +1,19 @@
 // The search for the active schedules of one variant.
-use candidates::FREE;
-use candidates::NEVER;
 use candidates::WORK_CELLS;
 use candidates::Work;
-use candidates::choice_end;
-use candidates::contests;
-use candidates::earliest_end;
+use candidates::crowding;
+use candidates::free_of;
 use candidates::later;
-use candidates::least_key;
-use candidates::opened;
-use candidates::release;
+use candidates::ready_of;
+use candidates::store_end;
+use candidates::store_free;
+use moves::Line;
+use moves::resolve;
+use moves::start;
 use network::CAP;
 use network::LINK;
 use network::Table;
+use network::duration_of;
 use network::resource_of;
 use sets::after_lowest;
 use sets::lowest;
@@ -23,134 +24,159 @@ use tally::cells_of;
 use tally::leave;
 use tally::leave_new;
 use tally::tally_of;
+use unbranched::advance;
+use unbranched::complete;
 use variant::Variant;
 ghost use mathlib.Core.Path.{_≡_};
-ghost use Prim.Native.Nat.{_<_, _+_};
-ghost use Rattle.sets.specs.Lowest.{afterLowest};
+ghost use Prim.Native.Nat.{ℕ, _<_};
+ghost use lib.Dec.{ltb};
 ghost use Rattle.variant.specs.Tables.{Tabled};
-ghost use Rattle.tally.specs.Seen.{kept, keptOf, allSeen};
-ghost use Rattle.scan.specs.Model.{problemOf};
-ghost use Rattle.candidates.specs.Work.{Uncontested};
+ghost use Rattle.tally.specs.Seen.{kept, keptOf, allSeen, tallyOf};
+ghost use Rattle.scan.specs.Model.{State, problemOf};
+ghost use Rattle.network.specs.Network.{capOf};
+ghost use Rattle.candidates.specs.Work.{crowd};
+ghost use Rattle.sets.specs.Lowest.{afterLowest};
+ghost use Rattle.tally.specs.Leaf.{Fit};
+ghost use Rattle.moves.specs.declared.Line.{Line};
 ghost use Rattle.orders.specs.Book.{Rivals, isNewBy};
-ghost use Rattle.search.specs.Standing.{position, Standing, Explored};
 ghost use Rattle.variant.specs.declared.Variant.{Variant};
+ghost use Rattle.search.specs.Lone.{Lone, Ordered};
+ghost use Rattle.unbranched.specs.AtLine.{Base, Given, OnLine, ExploredLine};
+ghost use Rattle.unbranched.specs.Run.{Run};
 
-// The last activity left is frozen. A variant without a lower one that has its activities is spared the test for new
-// schedules, here and below.
+// More schedules than the cap have been seen.
+fn is_over(table: &Table, cells: &Cells) -> bool
+    requires { ⌜ Fit (now table) ⌝ }
+    ensures { λ r. ⌜ r ≡ ltb (capOf (now (table .entry))) (tallyOf (now (cells .entry)) .count) ⌝ }
+{
+    cells[COUNT] > table[CAP] as u64
+}
+
+// The last activity left is frozen, from `free` on at the soonest.
 fn finish(
     table: &Table,
     left: u32,
-    cands: u32,
+    free: u32,
     latest: u32,
     work: &mut Work,
     cells: &mut Cells,
     book: &[u32],
     area: &mut [u32],
 )
-    requires { ⌜ Standing (now table) (now book) (position left cands latest (now work)) (now cells)
-        × (0 < left) × (afterLowest left ≡ 0) ⌝ }
+    requires { ⌜ Given (now table) (now book) (now work) (now cells) × (0 < left) × (afterLowest left ≡ 0)
+        × ((s : State) × Base (now table) left latest (now work) s × Lone (now table) left free (now work) s) ⌝ }
     ensures { λ _.
-        ⌜ Explored (now (table .entry)) (now (book .entry)) (position left cands latest (now (work .entry)))
-        (keptOf (now (cells .entry)) (now (area .entry))) (now (work .exit)) (now (cells .exit)) (now (area .exit)) ⌝ }
+        ⌜ Ordered (now (table .entry)) (now (book .entry)) left free latest
+        (keptOf (now (cells .entry)) (now (area .entry))) (now (work .entry)) (now (work .exit)) (now (cells .exit))
+        (now (area .exit)) ⌝ }
 {
-    if cands != 0 {
-        let i = lowest(cands);
-        let end = earliest_end(table, work, i);
-        work[i] = end;
-        let last = later(latest, end);
-        if table[LINK] == 0 {
-            leave(table, work, last, cells, area);
-        } else {
-            leave_new(table, work, last, cells, book, area);
-        }
+    let i = lowest(left);
+    let end = later(ready_of(work, i), free) + duration_of(table[i]);
+    store_end(work, i, end);
+    let last = later(latest, end);
+    if table[LINK] == 0 {
+        leave(table, work, last, cells, area);
+    } else {
+        leave_new(table, work, last, cells, book, area);
     }
 }
 
-// No resource is wanted twice by what is left, so that each activity starts as soon as it can.
-fn settle(
+// Nothing waits, and all that is left is on one resource, free from `free` on: every order of it.
+fn order(
     table: &Table,
     left: u32,
-    cands: u32,
+    free: u32,
     latest: u32,
     work: &mut Work,
     cells: &mut Cells,
     book: &[u32],
     area: &mut [u32],
 )
-    requires { ⌜ Standing (now table) (now book) (position left cands latest (now work)) (now cells)
-        × Uncontested (now table) left ⌝ }
+    requires { ⌜ Given (now table) (now book) (now work) (now cells) × (0 < afterLowest left)
+        × ((s : State) × Base (now table) left latest (now work) s × Lone (now table) left free (now work) s) ⌝ }
     ensures { λ _.
-        ⌜ Explored (now (table .entry)) (now (book .entry)) (position left cands latest (now (work .entry)))
-        (keptOf (now (cells .entry)) (now (area .entry))) (now (work .exit)) (now (cells .exit)) (now (area .exit)) ⌝ }
+        ⌜ Ordered (now (table .entry)) (now (book .entry)) left free latest
+        (keptOf (now (cells .entry)) (now (area .entry))) (now (work .entry)) (now (work .exit)) (now (cells .exit))
+        (now (area .exit)) ⌝ }
 {
-    let mut last = latest;
-    let mut rest = left;
-    let mut open = cands;
-    while open != 0 {
-        let i = lowest(open);
-        let end = earliest_end(table, work, i);
-        work[i] = end;
-        last = later(last, end);
-        rest = sets::without(rest, i);
-        open = release(table, work, rest, after_lowest(open), i);
+    if is_over(table, cells) {
+        return;
     }
-    if rest == 0 {
-        if table[LINK] == 0 {
-            leave(table, work, last, cells, area);
+    let mut rest = left;
+    while rest != 0 {
+        let j = lowest(rest);
+        rest = after_lowest(rest);
+        let end = later(ready_of(work, j), free) + duration_of(table[j]);
+        store_end(work, j, end);
+        let last = later(latest, end);
+        let fewer = sets::without(left, j);
+        if after_lowest(fewer) == 0 {
+            finish(table, fewer, end, last, work, cells, book, area);
         } else {
-            leave_new(table, work, last, cells, book, area);
+            order(table, fewer, end, last, work, cells, book, area);
         }
     }
 }
 
-// Every schedule below a state of the search is counted, and kept or written.
+// Every schedule below the state at which the line stands is counted, and kept or written. A conflict combination is
+// chosen resource by resource: one of the activities in conflict is frozen, and the line stays where it is while
+// another resource is contested.
 fn descend(
     table: &Table,
-    left: u32,
-    cands: u32,
+    line: Line,
     latest: u32,
-    known: u32,
+    many: u32,
     work: &mut Work,
     cells: &mut Cells,
     book: &[u32],
     area: &mut [u32],
 )
-    requires { ⌜ Standing (now table) (now book) (position left cands latest (now work)) (now cells)
-        × (0 < known → 0 < afterLowest left) ⌝ }
+    requires { ⌜ Given (now table) (now book) (now work) (now cells) × (many ≡ crowd (now table) (line .left))
+        × ((s : State) × Base (now table) (line .left) latest (now work) s × OnLine (now table) line (now work) s)
+        × ((present : ℕ) × Run (now table) present line (now work)) ⌝ }
     ensures { λ _.
-        ⌜ Explored (now (table .entry)) (now (book .entry)) (position left cands latest (now (work .entry)))
-        (keptOf (now (cells .entry)) (now (area .entry))) (now (work .exit)) (now (cells .exit)) (now (area .exit)) ⌝ }
+        ⌜ ExploredLine (now (table .entry)) (now (book .entry)) line latest
+        (keptOf (now (cells .entry)) (now (area .entry))) (now (work .entry)) (now (work .exit)) (now (cells .exit))
+        (now (area .exit)) ⌝ }
 {
-    if cells[COUNT] > table[CAP] as u64 {
+    if is_over(table, cells) {
         return;
     }
-    let many = contests(table, left, known);
-    if many == 0 {
-        settle(table, left, cands, latest, work, cells, book, area);
+    let stop = advance(table, work, line, latest, many);
+    if stop.rivals == 0 {
+        complete(table, stop.line, stop.latest, work, cells, book, area);
         return;
     }
-    let key = least_key(table, work, cands);
-    let mut rest = cands;
+    let r = resource_of(table[lowest(stop.rivals)]);
+    let free = free_of(work, r);
+    if stop.rivals == stop.line.left {
+        order(
+            table,
+            stop.rivals,
+            free,
+            stop.latest,
+            work,
+            cells,
+            book,
+            area,
+        );
+        return;
+    }
+    let mut rest = stop.rivals;
     while rest != 0 {
-        let i = lowest(rest);
+        let j = lowest(rest);
         rest = after_lowest(rest);
-        let end = choice_end(table, work, key, i);
-        if end != NEVER {
-            let r = resource_of(table[i]);
-            let free = work[FREE + r];
-            work[i] = end;
-            work[FREE + r] = end;
-            let fewer = sets::without(left, i);
-            let next = release(table, work, fewer, sets::without(cands, i), i);
-            let last = later(latest, end);
-            if after_lowest(fewer) == 0 {
-                finish(table, fewer, next, last, work, cells, book, area);
-            } else {
-                descend(table, fewer, next, last, many - 1, work, cells, book, area);
-            }
-            work[FREE + r] = free;
+        let end = resolve(table, work, j, free);
+        let mut next = stop.line;
+        next.left = sets::without(stop.line.left, j);
+        let last = later(stop.latest, end);
+        if stop.many == 1 {
+            complete(table, next, last, work, cells, book, area);
+        } else {
+            descend(table, next, last, stop.many - 1, work, cells, book, area);
         }
     }
+    store_free(work, r, free);
 }
 
 // Every active schedule of the variant with that number that none of the orders up to the link has is counted, until
@@ -172,19 +198,14 @@ pub fn search(
 {
     let table = network::network(x, number, cap, link);
     let present = x.present;
-    let cands = opened(&table, present);
+    let many = crowding(&table, present);
     let mut work = [0; WORK_CELLS];
     let mut cells = cells_of(tally);
-    descend(
-        &table,
-        present,
-        cands,
-        0,
-        0,
-        &mut work,
-        &mut cells,
-        book,
-        area,
-    );
+    let line = start(&table, &mut work, present);
+    if many == 0 {
+        complete(&table, line, 0, &mut work, &mut cells, book, area);
+    } else {
+        descend(&table, line, 0, many, &mut work, &mut cells, book, area);
+    }
     tally_of(&cells)
 }

@@ -221,6 +221,16 @@ has-without a i j h =
     go true e = ap (λ (x : Bool). xor x true) (ap (has a) (eqb-true j i e) ∙ h) ∙ sym (and-false (has a j))
     go false e = plain (has a j)
 
+less : (x y : Bool) → xor x (x && y) ≡ (x && not y)
+unfolding xor
+less true true = refl
+less true false = refl
+less false y = refl
+
+-- The members of a that are not in b.
+pub has-minus : (a b k : ℕ) → has (bitXor a (bitAnd a b)) k ≡ (has a k && not (has b k))
+has-minus a b k = has-xor a (bitAnd a b) k ∙ ap (xor (has a k)) (has-and a b k) ∙ less (has a k) (has b k)
+
 -- ---- the number of members
 
 pub size-same : (n a b : ℕ) → ((i : ℕ) → i < n → has a i ≡ has b i) → size a n ≡ size b n
@@ -265,3 +275,28 @@ size-without n a i l h =
     size-more n a (a - 2 ^ i) i l h (has-without a i i h ∙ ap (λ (x : Bool). has a i && not x) (eq-eqb i i refl)
     ∙ and-false (has a i))
     (λ j e. sym (has-without a i j h ∙ ap (λ (x : Bool). has a j && not x) (ne-eqb j i e) ∙ and-true (has a j)))
+
+pub size-sub : (n a b : ℕ) → ((i : ℕ) → has a i ≡ true → has b i ≡ true) → size a n ≤ size b n
+unfolding size
+size-sub zero a b f = omega arith
+size-sub (suc n) a b f = omega (arith, at-most (has a n) (has b n) (f n), size-sub n a b f)
+  where
+    at-most : (x y : Bool) → (x ≡ true → y ≡ true)
+        → elim x [ true ↦ 1 | false ↦ 0 ] ≤ elim y [ true ↦ 1 | false ↦ 0 ]
+    at-most true true g = omega arith
+    at-most true false g = absurd (true≢false (sym (g refl)))
+    at-most false y g = omega arith
+
+-- A proper subset has fewer.
+pub size-less : (n a b i : ℕ) → i < n → ((j : ℕ) → has a j ≡ true → has b j ≡ true) → has a i ≡ false → has b i ≡ true
+    → size a n < size b n
+size-less n a b i l f none there =
+    omega (
+      arith,
+      size-without n b i l there,
+      size-sub n a (b - 2 ^ i)
+          (λ j h.
+          has-without b i j there
+          ∙ ap₂ (λ (x y : Bool). x && not y) (f j h)
+          (ne-eqb j i (λ e. true≢false (sym h ∙ ap (has a) e ∙ none)))),
+    )

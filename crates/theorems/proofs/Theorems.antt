@@ -4,7 +4,7 @@ use Prim.Native.Nat.{ℕ, _≤_, _<_}
 use native.Mathlib.Decide.{decLe}
 use native.Mathlib.Omega.{arith}
 use mathlib.Core.Bool.{true}
-use mathlib.Core.List.{List, _∷_, List·Memᴰ}
+use mathlib.Core.List.{List, _∷_, List·Memᴰ, Perm}
 use mathlib.Core.Logic.{_↔_, by-cases}
 use mathlib.Core.Path.{_≡_, sym, ap, _∙_, subst}
 use mathlib.Core.Option.{some}
@@ -16,9 +16,10 @@ use Rattle.plan.specs.declared.Refusal.{Refusal}
 use Rattle.plan.specs.declared.Refusal.the-variants.{OverCap}
 use Rattle.format.specs.Text.{text}
 use Rattle.format.proofs.Longest.{longestPlan}
-use Rattle.schedule.specs.Sessions.{startsOf}
+use Rattle.timetable.specs.Mark.{mark}
+use Rattle.schedule.specs.Sessions.{startsOf, sessions}
 use Rattle.term.specs.Term.{Term, full, termOf}
-use Rattle.term.specs.Valid.{Valid}
+use Rattle.term.specs.Valid.{Valid, HasVariant}
 use Rattle.term.specs.Variants.{variants, variantCount, activities, twice}
 use Rattle.term.specs.Clash.{clash, Repeats}
 use Rattle.term.specs.Reduced.{Reduced}
@@ -26,7 +27,11 @@ use Rattle.term.proofs.Reading.{full-termOf, plan-full}
 use Rattle.term.proofs.Reduced.{variants-reduced}
 use Rattle.term.proofs.Twice.{twice-clash, twice-means}
 use Rattle.variant.specs.Pairs.{pairs, pairCount}
-use Rattle.variant.specs.Project.{variantAt}
+use Rattle.variant.specs.Project.{variantAt, projectOf}
+use Rattle.variant.specs.Tables.{IsVariant}
+use Rattle.variant.specs.declared.Variant.{Variant}
+use Rattle.scan.specs.Model.{problemOf}
+use Rattle.scan.specs.Scan.{schedules}
 use Rattle.variant.specs.Timetable.{isSession, timetableOf}
 use Rattle.variant.specs.Written.{dissolved}
 use Rattle.variant.proofs.Dissolve.{dissolved-full}
@@ -47,6 +52,7 @@ use Rattle.answers.specs.Words.{Listing, ListingOf, FirstShortest}
 use Rattle.answers.specs.declared.Best.{Best}
 use Rattle.answers.specs.declared.BestAnswer.the-variants.{Found, Refused}
 use Rattle.answers.specs.declared.ListAnswer.the-variants.{Listed}
+use Rattle.plan_exact.proofs.Found.{variant-scan}
 use Rattle.plan_exact.proofs.Meaning.{list-listing, pairs-listing, best-first}
 use Rattle.plan_exact.proofs.Pairs.{pair-checks}
 use Rattle.theorems.specs.TurnedBack.{TurnedBack, Untouched}
@@ -146,6 +152,12 @@ first-shortest-row s p t accepted cap l =
       subst (λ (row : List ℕ). Between p t (rowVariant row) (rowSpan p t row)) (sym whole)
           (shortest-between p t valid v ss first),
     )
+
+-- The scan of document 000, section 4.2, gives exactly the active schedules of a variant, each once: its Theorem 2. The
+-- variant x is in tables.
+pub scan-theorem : (p : Plan) (t : Term) (v : ℕ) → HasVariant p t v → (x : Variant) → IsVariant p (variantAt t v) x
+    → Perm (schedules (problemOf x) (length (p .activities)) (x .present)) (sessions (projectOf p (variantAt t v)) mark)
+scan-theorem = variant-scan
 
 -- Which files are accepted: exactly the texts of valid plans.
 pub accepted-texts : (s : List ℕ) (p : Plan) (t : Term) → (judge s ≡ accepts p t) ↔ (Valid p t × (s ≡ text p))

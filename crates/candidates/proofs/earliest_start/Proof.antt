@@ -1,10 +1,13 @@
 -- `earliest_start` meets its contract.
-use Prim.Native.Nat.{ℕ, max}
-use mathlib.Core.Path.{ap, _∙_}
+use Prim.Native.Nat.{max}
+use mathlib.Core.Path.{ap, ap₂, _∙_}
 use borrow.Author.Needs.{needs}
-use Rattle.candidates.specs.Work.{readyAt, freeAt}
+use Rattle.candidates.specs.Work.{freeAt}
 use Rattle.candidates.proofs.earliest_start.Statement.{statement}
 use Rattle.candidates.proofs.earliest_start.Tie as tie
+
+ready-of-requires : tie.Need-ready-of-requires
+ready-of-requires c κs = search needs
 
 mul-resource-of : tie.Need-mul-resource-of
 mul-resource-of c = search needs
@@ -15,46 +18,29 @@ element-copy-out-resource-of c = search needs
 resource-of-requires : tie.Need-resource-of-requires
 resource-of-requires c κs = search needs
 
-add-later : tie.Need-add-later
-add-later c = search needs
-
-mul-later : tie.Need-mul-later
-mul-later c = search needs
-
-element-copy-out-later : tie.Need-element-copy-out-later
-element-copy-out-later c = search needs
-
-add-later-2 : tie.Need-add-later-2
-add-later-2 c = search needs
-
-mul-later-2 : tie.Need-mul-later-2
-mul-later-2 c = search needs
-
-element-copy-out-later-2 : tie.Need-element-copy-out-later-2
-element-copy-out-later-2 c = search needs
+free-of-requires : tie.Need-free-of-requires
+free-of-requires c κs = search needs
 
 later-requires : tie.Need-later-requires
 later-requires c κs = search needs
 
 returns : tie.Need-returns
 returns c =
-    let at = c .before .before .before .before .before .args in
+    let free = c .before in
+    let on = free .before in
+    let ready = on .before .before in
     c .later .ensures
-    ∙ ap (λ (r : ℕ). max (readyAt (at .work .now) (at .i)) (freeAt (at .work .now) r))
-    (c .before .before .before .resource-of .ensures)
+    ∙ ap₂ max (ready .ready-of .ensures)
+    (free .free-of .ensures ∙ ap (freeAt (ready .before .args .work .now)) (on .resource-of .ensures))
 
 pub earliest-start-spec : {M : Type 1} → statement M
 earliest-start-spec =
     tie.close
     (tie.spec
+    ready-of-requires
     mul-resource-of
     element-copy-out-resource-of
     resource-of-requires
-    add-later
-    mul-later
-    element-copy-out-later
-    add-later-2
-    mul-later-2
-    element-copy-out-later-2
+    free-of-requires
     later-requires
     returns)

@@ -1,6 +1,6 @@
 -- `latest` meets its contract. The loop's invariant: the fold over the members still to come, from the latest end so
 -- far, gives the latest of all.
-use mathlib.Core.Path.{_≡_}
+use mathlib.Core.Path.{_≡_, ap, _∙_}
 use mathlib.Core.List.{foldl}
 use Prim.Native.Nat.{_<_, _^_, max}
 use native.Mathlib.Omega.{arith}
@@ -25,16 +25,8 @@ loop-holds c = (omega arith, latest-fold (c .args .work .now) (c .args .set))
 lowest-requires : tie.Need-lowest-requires Inv-loop μ-loop
 lowest-requires c κs = search needs
 
-mul-later : tie.Need-mul-later Inv-loop μ-loop
-mul-later c =
-    omega (
-      arith,
-      lowest-below (c .before .before .loop .rest) (c .lowest .result) (c .before .before .loop .inv .0)
-          (c .before .loop-test .taken) (c .lowest .ensures),
-    )
-
-element-copy-out-later : tie.Need-element-copy-out-later Inv-loop μ-loop
-element-copy-out-later c =
+end-of-requires : tie.Need-end-of-requires Inv-loop μ-loop
+end-of-requires c κs =
     omega (
       arith,
       lowest-below (c .before .before .loop .rest) (c .lowest .result) (c .before .before .loop .inv .0)
@@ -63,7 +55,8 @@ loop-again c =
     let more = c .before .before .before .before .loop-test .taken in (
       omega (arith, c .after-lowest .ensures, after-less (at .loop .rest) (at .loop .inv .0) more),
       turn (λ a i. max a (endAt (at .before .args .work .now) i)) (at .loop .inv .0) more
-          (c .before .before .before .lowest .ensures) (c .after-lowest .ensures) (c .before .later .ensures)
+          (c .before .before .before .lowest .ensures) (c .after-lowest .ensures)
+          (c .before .later .ensures ∙ ap (max (at .loop .last)) (c .before .before .end-of .ensures))
           (at .loop .inv .1),
     )
 
@@ -79,8 +72,7 @@ latest-spec =
     μ-loop
     loop-holds
     lowest-requires
-    mul-later
-    element-copy-out-later
+    end-of-requires
     later-requires
     after-lowest-requires
     loop-less

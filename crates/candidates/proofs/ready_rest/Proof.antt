@@ -1,194 +1,38 @@
--- `ready_rest` meets its contract. The loop's invariant: what has been looked at is gathered and ready where it waits
--- for nothing left.
-use mathlib.Core.Bool.{not}
-use mathlib.Core.Path.{sym, ap, _∙_}
+-- `ready_rest` meets its contract: what is left and placed, and the rest of what is left, are sets of activities.
 use Prim.Native.Nat.{_^_, _<_}
 use native.Mathlib.Omega.{arith}
 use native.Mathlib.Nat.{lt-of-le-of-lt}
 use borrow.Author.Needs.{needs}
-use borrow.Author.Tests.{not-true, not-false}
-use lib.Bits.{bitAnd, bitOr, and-le-l, xor-lt}
-use Rattle.sets.specs.Sets.{most, meet}
-use Rattle.network.specs.Network.{predsAt}
-use Rattle.candidates.proofs.Turns.{Turn, turned, Releasing, releasing, readied-rest, release-less, release-more}
+use lib.Bits.{bitAnd, and-le-l, xor-lt}
+use Rattle.sets.specs.Sets.{most}
+use Rattle.candidates.proofs.Turns.{readied-rest}
 use Rattle.candidates.proofs.ready_rest.Statement.{statement}
 use Rattle.candidates.proofs.ready_rest.Tie as tie
-use Rattle.candidates.proofs.ready_rest.Lts as lts
-use Rattle.candidates.proofs.ready_rest.Reads as reads
-use Rattle.sets.proofs.common.Reads as common-reads
-use Rattle.sets.proofs.minus.Reads as minus-reads
-use Rattle.sets.proofs.lowest.Reads as lowest-reads
-use Rattle.sets.proofs.after_lowest.Reads as after-lowest-reads
-use Rattle.sets.proofs.meets.Reads as meets-reads
-use Rattle.candidates.proofs.latest.Reads as latest-reads
-use Rattle.candidates.proofs.store_ready.Reads as store-ready-reads
-use Rattle.sets.proofs.single.Reads as single-reads
-use Rattle.sets.proofs.union.Reads as union-reads
 
-abbrev Inv-loop : tie.InvT-loop
-Inv-loop table work₀ left placed all₀ rest₀ work all rest = Releasing table left all₀ rest₀ work₀ work all rest
-
-abbrev μ-loop : tie.MeasureT-loop
-μ-loop table work₀ left placed all₀ rest₀ work all rest = rest
-
--- The lowest member has been taken off.
-abbrev Taken : Type 0
-Taken =
-    lts.After-after-lowest (
-      common-reads.Asked,
-      common-reads.Learnt,
-      minus-reads.Asked,
-      minus-reads.Learnt,
-      lowest-reads.Asked,
-      lowest-reads.Learnt,
-      after-lowest-reads.Asked,
-      after-lowest-reads.Learnt,
-      meets-reads.Asked,
-      meets-reads.Learnt,
-      latest-reads.Asked,
-      latest-reads.Learnt,
-      store-ready-reads.Asked,
-      store-ready-reads.Learnt,
-      single-reads.Asked,
-      single-reads.Learnt,
-      union-reads.Asked,
-      union-reads.Learnt,
-    )
-    reads.Pre
-    reads.Post
-    Inv-loop
-    μ-loop
-
-turn : (l : Taken)
-    → Turn (l .before .before .before .loop .rest) (l .after-lowest .result) (l .before .lowest .result)
-turn l =
-    turned (l .before .before .before .loop .rest) (l .after-lowest .result) (l .before .lowest .result)
-    (l .before .before .before .loop .inv .rest-low)
-    (l .before .before .loop-test .taken)
-    (l .before .lowest .ensures)
-    (l .after-lowest .ensures)
-
-common-requires : tie.Need-common-requires Inv-loop μ-loop
+common-requires : tie.Need-common-requires
 common-requires c κs = search needs
 
-minus-requires : tie.Need-minus-requires Inv-loop μ-loop
+minus-requires : tie.Need-minus-requires
 minus-requires c κs = search needs
 
-loop-holds : tie.Need-loop-holds Inv-loop μ-loop
-loop-holds c =
-    let s = c .before .before in
+make-ready-requires : tie.Need-make-ready-requires
+make-ready-requires c κs =
+    let s = c .before .before .before in
     let a = s .args in
     let both-low : bitAnd (a .left) (a .placed) < 2 ^ most =
-    lt-of-le-of-lt (and-le-l (a .left) (a .placed)) (s .pre .0) in
-    releasing (a .table .now) (a .left) (c .before .common .result) (c .minus .result) (a .work .now)
-    (omega (arith, c .before .common .ensures))
-    (omega (arith, c .minus .ensures, xor-lt most (a .left) (bitAnd (a .left) (a .placed)) (s .pre .0) both-low))
-    (s .pre .3)
+    lt-of-le-of-lt (and-le-l (a .left) (a .placed)) (s .pre .0) in (
+      omega (arith, c .before .common .ensures),
+      omega (arith, c .minus .ensures, xor-lt most (a .left) (bitAnd (a .left) (a .placed)) (s .pre .0) both-low),
+      s .pre .2,
+      s .pre .3,
+    )
 
-lowest-requires : tie.Need-lowest-requires Inv-loop μ-loop
-lowest-requires c κs = search needs
-
-after-lowest-requires : tie.Need-after-lowest-requires Inv-loop μ-loop
-after-lowest-requires c κs = search needs
-
-add-meets : tie.Need-add-meets Inv-loop μ-loop
-add-meets c = record { fits = omega (arith, turn c .below) }
-
-mul-meets : tie.Need-mul-meets Inv-loop μ-loop
-mul-meets c = record { fits = omega (arith, turn c .below) }
-
-element-copy-out-meets : tie.Need-element-copy-out-meets Inv-loop μ-loop
-element-copy-out-meets c = omega (arith, turn c .below)
-
-meets-requires : tie.Need-meets-requires Inv-loop μ-loop
-meets-requires c κs = search needs
-
-add-latest : tie.Need-add-latest Inv-loop μ-loop
-add-latest c = record { fits = omega (arith, turn (c .before .before .before .before) .below) }
-
-mul-latest : tie.Need-mul-latest Inv-loop μ-loop
-mul-latest c = record { fits = omega (arith, turn (c .before .before .before .before) .below) }
-
-element-copy-out-latest : tie.Need-element-copy-out-latest Inv-loop μ-loop
-element-copy-out-latest c = omega (arith, turn (c .before .before .before .before) .below)
-
-latest-requires : tie.Need-latest-requires Inv-loop μ-loop
-latest-requires c κs =
-    let l = c .before .before .before .before .before in
-    l .before .before .before .before .before .before .pre .2 .near-low (l .before .lowest .result) (turn l .below)
-
-store-ready-requires : tie.Need-store-ready-requires Inv-loop μ-loop
-store-ready-requires c κs = omega (arith, turn (c .before .before .before .before .before .before .before) .below)
-
-single-requires : tie.Need-single-requires Inv-loop μ-loop
-single-requires c κs = turn (c .before .before .before .before .before .before .before .before) .below
-
-union-requires : tie.Need-union-requires Inv-loop μ-loop
-union-requires c κs = search needs
-
-loop-less : tie.Need-loop-less Inv-loop μ-loop
-loop-less c =
-    omega (arith, turn (c .before .before .before .before .before .before .before .before .before .before) .fewer)
-
-loop-again : tie.Need-loop-again Inv-loop μ-loop
-loop-again c =
-    let f = c .before .before .before .before in
-    let l = f .before .before .before .before .before .before in
-    let at = l .before .before .before in
-    let a = at .before .before .before .args in
-    release-more (a .table .now) (a .left) (at .before .before .common .result) (at .before .minus .result)
-    (a .work .now) (at .loop .inv) (turn l) (f .latest .result)
-    (not-true (meet (predsAt (a .table .now) (l .before .lowest .result)) (a .left))
-    (ap not (sym (f .before .before .before .before .meets .ensures)) ∙ f .before .before .before .if1 .taken))
-    (f .latest .ensures)
-    (c .before .before .store-ready .ensures)
-    (c .union .ensures ∙ ap (bitOr (at .loop .all)) (c .before .single .ensures))
-
-loop-less-2 : tie.Need-loop-less-2 Inv-loop μ-loop
-loop-less-2 c = omega (arith, turn (c .before .before .before) .fewer)
-
-loop-again-2 : tie.Need-loop-again-2 Inv-loop μ-loop
-loop-again-2 c =
-    let l = c .before .before .before in
-    let at = l .before .before .before in
-    let a = at .before .before .before .args in
-    release-less (a .table .now) (a .left) (at .before .before .common .result) (at .before .minus .result)
-    (a .work .now) (at .loop .inv) (turn l)
-    (not-false (meet (predsAt (a .table .now) (l .before .lowest .result)) (a .left))
-    (ap not (sym (c .before .meets .ensures)) ∙ c .if1 .left))
-
-returns : tie.Need-returns Inv-loop μ-loop
+returns : tie.Need-returns
 returns c =
-    let e = c .before .before in
-    let a = e .before .before .args in
-    readied-rest (a .table .now) (a .left) (a .placed) (e .minus .result) (e .minus .ensures)
-    (e .before .common .result) (a .work .now) (e .before .common .ensures) (c .before .loop .inv)
-    (c .loop-test .left)
+    let m = c .before in
+    let a = m .before .before .before .args in
+    readied-rest (a .table .now) (a .left) (a .placed) (m .minus .result) (m .minus .ensures)
+    (m .before .common .result) (m .before .common .ensures) (c .make-ready .ensures)
 
 pub ready-rest-spec : {M : Type 1} → statement M
-ready-rest-spec =
-    tie.close
-    (tie.spec
-    Inv-loop
-    μ-loop
-    common-requires
-    minus-requires
-    loop-holds
-    lowest-requires
-    after-lowest-requires
-    add-meets
-    mul-meets
-    element-copy-out-meets
-    meets-requires
-    add-latest
-    mul-latest
-    element-copy-out-latest
-    latest-requires
-    store-ready-requires
-    single-requires
-    union-requires
-    loop-less
-    loop-again
-    loop-less-2
-    loop-again-2
-    returns)
+ready-rest-spec = tie.close (tie.spec common-requires minus-requires make-ready-requires returns)

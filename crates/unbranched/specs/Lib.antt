@@ -1,0 +1,3 @@
+-- What the contracts say.
+pub mod AtLine
+pub mod Run
