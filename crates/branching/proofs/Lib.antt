@@ -2,6 +2,7 @@
 -- Rows; then on a bench, where each resource has one unit.
 pub mod First
 pub mod Room
+pub mod Fit
 pub mod Node
 pub mod Under
 pub mod Chosen

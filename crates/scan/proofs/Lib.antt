@@ -3,3 +3,4 @@ pub mod Examples
 pub mod Forced
 pub mod Resolve
 pub mod Starts
+pub mod Joined

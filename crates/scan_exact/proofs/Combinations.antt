@@ -6,7 +6,7 @@ use native.Mathlib.Omega.{arith}
 use mathlib.Core.Bool.{Bool, true, false, not, _&&_, _||_, and-false, or-true}
 use mathlib.Core.Path.{_≡_, refl, sym, ap, _∙_, fun-ext, subst}
 use mathlib.Core.Logic.{_≢_, _⊎_, inl, inr, ⊎-elim, by-cases}
-use mathlib.Core.List.{List, [], _∷_, _++_, map, foldl, append-nil, append-assoc, List·Memᴰ, List·Memᴰ·not-nil}
+use mathlib.Core.List.{List, [], _∷_, map, foldl, append-nil, List·Memᴰ, List·Memᴰ·not-nil}
 use lib.Dec.{eqb}
 use borrow.Author.Tests.{eqb-true, eq-eqb, not-true, not-false}
 use Rattle.plan.specs.Limits.{mostResources}
@@ -23,6 +23,7 @@ use Rattle.branching.proofs.Leaves.{Leaves, branch}
 use Rattle.scan.specs.Scan.{Diagram, onLine, isDirect, isAlone, isConflictFree, isContested, inConflict}
 use Rattle.scan.specs.Scan.{combinationsFrom, combinations, freeze, select, resolve}
 use Rattle.scan.specs.Model.{Problem}
+use Rattle.scan.proofs.Joined.{joined, joined-gather, joined-if}
 use Rattle.scan_exact.proofs.Shows.{Models, has-present}
 use Rattle.scan_exact.proofs.Standing.{Standing, endIn, placed-open}
 use Rattle.scan_exact.proofs.Line.{Crosses, Stops, some-is, some-not, line-is, line-of, direct-is, direct-of}
@@ -32,36 +33,6 @@ use Rattle.scan_exact.proofs.Selected.{select-leaves, select-standing, 
 use Rattle.scan_exact.proofs.Attached.{Settled}
 use Rattle.scan_exact.proofs.Fewer.{toGo, fewer, fewer-frozen}
 use Rattle.scan_exact.proofs.ConflictFree.{freeze-standing, freeze-leaves}
-
--- What `below` gives for each of the combinations, joined.
-
-abbrev pub joined : (List ℕ → List (List ℕ)) → List (List ℕ) → List (List ℕ)
-joined below [] = []
-joined below (c ∷ cs) = below c ++ joined below cs
-
-joined-append : (below : List ℕ → List (List ℕ)) (cs ds : List (List ℕ))
-    → joined below (cs ++ ds) ≡ joined below cs ++ joined below ds
-joined-append below [] ds = refl
-joined-append below (c ∷ cs) ds =
-    ap (below c ++_) (joined-append below cs ds) ∙ sym (append-assoc (below c) (joined below cs) (joined below ds))
-
-joined-gather : (below : List ℕ → List (List ℕ)) (n : ℕ) (f : ℕ → List (List ℕ))
-    → joined below (gather n f) ≡ gather n (λ i. joined below (f i))
-unfolding gather
-joined-gather below zero f = refl
-joined-gather below (suc n) f =
-    joined-append below (gather n f) (f n) ∙ ap (_++ joined below (f n)) (joined-gather below n f)
-
-joined-map : (below : List ℕ → List (List ℕ)) (i : ℕ) (cs : List (List ℕ))
-    → joined below (map (i ∷_) cs) ≡ joined (λ c. below (i ∷ c)) cs
-joined-map below i [] = refl
-joined-map below i (c ∷ cs) = ap (below (i ∷ c) ++_) (joined-map below i cs)
-
-joined-if : (below : List ℕ → List (List ℕ)) (b : Bool) (i : ℕ) (cs : List (List ℕ))
-    → joined below (elim b [ true ↦ map (i ∷_) cs | false ↦ [] ])
-    ≡ elim b [ true ↦ joined (λ c. below (i ∷ c)) cs | false ↦ [] ]
-joined-if below true i cs = joined-map below i cs
-joined-if below false i cs = refl
 
 -- A move uses something up: a diagram has used it up, or has a direct activity, which leaves T.
 abbrev pub Falls : Problem → ℕ → ℕ → Diagram → Type 0

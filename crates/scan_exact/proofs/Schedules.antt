@@ -3,9 +3,9 @@ use Prim.Native.Nat.{ℕ, zero, suc, _*_, _<_}
 use native.Mathlib.Nat.{not-suc-le-zero}
 use native.Mathlib.Omega.{arith}
 use mathlib.Core.Bool.{Bool, true, false, not, cond, _&&_, and-false}
-use mathlib.Core.Path.{_≡_, refl, sym, ap, _∙_}
+use mathlib.Core.Path.{_≡_, sym, ap, _∙_}
 use mathlib.Core.Logic.{⊎-elim}
-use mathlib.Core.List.{List, [], _∷_, _++_, map, map-append, Perm}
+use mathlib.Core.List.{List, [], _∷_, map, Perm}
 use lib.ListN.{length}
 use lib.Seq.{ext-getD}
 use Rattle.base.specs.Below.{_implies_}
@@ -32,13 +32,8 @@ use Rattle.scan_exact.proofs.Line.{direct-is}
 use Rattle.scan_exact.proofs.Attached.{Settled, delete-standing, attach-alike, attach-standing}
 use Rattle.scan_exact.proofs.Moved.{move-standing, move-stops}
 use Rattle.scan_exact.proofs.Fewer.{toGo, fewer, fewer-term, start-to-go}
-use Rattle.scan_exact.proofs.Combinations.{joined, Falls, combined}
-
-map-joined : (f : Diagram → List ℕ) (below : List ℕ → List Diagram) (cs : List (List ℕ))
-    → map f (forEach below cs) ≡ joined (λ c. map f (below c)) cs
-map-joined f below [] = refl
-map-joined f below (c ∷ cs) =
-    map-append f (below c) (forEach below cs) ∙ ap (map f (below c) ++_) (map-joined f below cs)
+use Rattle.scan.proofs.Joined.{joined, map-joined}
+use Rattle.scan_exact.proofs.Combinations.{Falls, combined}
 
 module _ (p : Project) (resource : ℕ → ℕ) (bench : Bench p resource) (q : Problem) (present : ℕ)
     (given : Models p resource q present) where

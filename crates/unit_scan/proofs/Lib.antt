@@ -1,0 +1,2 @@
+-- Small projects.
+pub mod Examples

@@ -1,0 +1,3 @@
+-- The scan over any project.
+pub mod Components
+pub mod Scan

@@ -1,0 +1,1 @@
+// The steps of the scan over any project. There is no code here.
