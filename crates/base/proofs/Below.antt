@@ -75,6 +75,25 @@ sum-le (suc n) f g h = omega (arith, sum-le n f g (λ i l. h i (omega arith)), h
 pub sum-eq : (n : ℕ) (f g : ℕ → ℕ) → ((i : ℕ) → i < n → f i ≡ g i) → sumBelow n f ≡ sumBelow n g
 sum-eq n f g h = le-antisymm (sum-le n f g (λ i l. omega (arith, h i l))) (sum-le n g f (λ i l. omega (arith, h i l)))
 
+-- A sum of more terms, and of more that are 0.
+pub sum-more : (n m : ℕ) (f : ℕ → ℕ) → n ≤ m → sumBelow n f ≤ sumBelow m f
+unfolding sumBelow
+sum-more n zero f h = let e : n ≡ 0 = omega (arith, h) in rw e (omega arith)
+sum-more n (suc m) f h =
+    by-cases (ℕ-discrete n (suc m)) (λ e. rw e (omega arith)) (λ ne. omega (arith, sum-more n m f (omega (arith, h, ne))))
+
+pub sum-stops : (n m : ℕ) (f : ℕ → ℕ) → n ≤ m → ((i : ℕ) → n ≤ i → i < m → f i ≡ 0) → sumBelow m f ≤ sumBelow n f
+unfolding sumBelow
+sum-stops n zero f h none = zero-le
+sum-stops n (suc m) f h none =
+    by-cases (ℕ-discrete n (suc m)) (λ e. rw e (omega arith))
+    (λ ne.
+    omega (
+      arith,
+      sum-stops n m f (omega (arith, h, ne)) (λ i a b. none i a (omega (arith, b))),
+      none m (omega (arith, h, ne)) (omega arith),
+    ))
+
 -- All terms of f are at most those of g, save the one at j.
 pub sum-le-but : (n : ℕ) (f g : ℕ → ℕ) (j b c : ℕ) → j < n → ((i : ℕ) → i < n → i ≢ j → f i ≤ g i) → f j + b ≤ g j + c
     → sumBelow n f + b ≤ sumBelow n g + c
@@ -93,10 +112,29 @@ sum-le-but (suc n) f g j b c l h k =
       h n (omega arith) (omega arith),
     ))
 
+pub sum-eq-but : (n : ℕ) (f g : ℕ → ℕ) (j c : ℕ) → j < n → ((i : ℕ) → i < n → i ≢ j → f i ≡ g i) → f j ≡ g j + c
+    → sumBelow n f ≡ sumBelow n g + c
+sum-eq-but n f g j c l h k =
+    omega (
+      arith,
+      sum-le-but n f g j 0 c l (λ i l′ ne. omega (arith, h i l′ ne)) (omega arith),
+      sum-le-but n g f j c 0 l (λ i l′ ne. omega (arith, h i l′ ne)) (omega arith),
+    )
+
 pub sum-zero : (n : ℕ) (f : ℕ → ℕ) → ((i : ℕ) → i < n → f i ≡ 0) → sumBelow n f ≡ 0
 unfolding sumBelow
 sum-zero zero f h = refl
 sum-zero (suc n) f h = omega (arith, sum-zero n f (λ i l. h i (omega arith)), h n (omega arith))
+
+-- Terms from n on that are 0.
+pub sum-front : (n m : ℕ) (f : ℕ → ℕ) → n ≤ m → ((i : ℕ) → n ≤ i → f i ≡ 0) → sumBelow m f ≡ sumBelow n f
+unfolding sumBelow
+sum-front n zero f le none = let e : zero ≡ n = omega arith in ap (λ (k : ℕ). sumBelow k f) e
+sum-front n (suc m) f le none =
+    by-cases
+    (decLe n m)
+    (λ l. omega (arith, sum-front n m f l none, none m l))
+    (λ g. let e : suc m ≡ n = omega arith in ap (λ (k : ℕ). sumBelow k f) e)
 
 pub sum-term : (n : ℕ) (f : ℕ → ℕ) (i : ℕ) → i < n → f i ≤ sumBelow n f
 sum-term n f i l =
@@ -123,28 +161,36 @@ sum-some (suc n) f h =
     (λ z. let (i, l, x) = sum-some n f (omega arith) in (i, omega arith, x))
     (λ ne. (n, omega arith, omega arith))
 
--- At most one term is not 0, and none is above 1.
-pub sum-one : (n : ℕ) (f : ℕ → ℕ) → ((i : ℕ) → i < n → f i ≤ 1)
-    → ((i j : ℕ) → i < n → j < n → 0 < f i → 0 < f j → i ≡ j) → sumBelow n f ≤ 1
+-- At most one term is not 0.
+pub sum-single : (n : ℕ) (f : ℕ → ℕ) (b c : ℕ) → b ≤ c → ((i : ℕ) → i < n → f i + b ≤ c)
+    → ((i j : ℕ) → i < n → j < n → 0 < f i → 0 < f j → i ≡ j) → sumBelow n f + b ≤ c
 unfolding sumBelow
-sum-one zero f low single = zero-le
-sum-one (suc n) f low single =
+sum-single zero f b c l low single = omega arith
+sum-single (suc n) f b c l low single =
     by-cases
     (ℕ-discrete (f n) 0)
     (λ z.
-    omega (arith, sum-one n f (λ i l. low i (omega arith)) (λ i j l m. single i j (omega arith) (omega arith))))
+    omega (
+      arith,
+      sum-single n f b c l (λ i m. low i (omega arith)) (λ i j m k. single i j (omega arith) (omega arith)),
+    ))
     (λ ne.
     let rest : sumBelow n f ≡ 0 =
     sum-zero
     n
     f
-    (λ i l.
+    (λ i m.
     by-cases
     (ℕ-discrete (f i) 0)
     (λ z. z)
     (λ ne′. absurd (omega (arith, single i n (omega arith) (omega arith) (omega arith) (omega arith)))))
     in
     omega (arith, low n (omega arith)))
+
+-- And none is above 1.
+pub sum-one : (n : ℕ) (f : ℕ → ℕ) → ((i : ℕ) → i < n → f i ≤ 1)
+    → ((i j : ℕ) → i < n → j < n → 0 < f i → 0 < f j → i ≡ j) → sumBelow n f ≤ 1
+sum-one n f low single = omega (arith, sum-single n f 0 1 (omega arith) (λ i l. omega (arith, low i l)) single)
 
 pub sum-const : (n : ℕ) (f : ℕ → ℕ) (c : ℕ) → ((i : ℕ) → i < n → f i ≤ c) → sumBelow n f ≤ n * c
 unfolding sumBelow
@@ -191,6 +237,15 @@ pub max-least : (n : ℕ) (f : ℕ → ℕ) (b : ℕ) → ((i : ℕ) → i < n �
 unfolding maxBelow
 max-least zero f b h = zero-le
 max-least (suc n) f b h = omega (arith, max-least n f b (λ i l. h i (omega arith)), h n (omega arith))
+
+pub max-reached : (n : ℕ) (f : ℕ → ℕ) → 0 < maxBelow n f → (i : ℕ) × (i < n) × (maxBelow n f ≡ f i)
+unfolding maxBelow
+max-reached zero f h = absurd (omega arith)
+max-reached (suc n) f h =
+    by-cases
+    (decLe (maxBelow n f) (f n))
+    (λ l. (n, omega arith, omega arith))
+    (λ g. let (i, l, e) = max-reached n f (omega arith) in (i, omega arith, omega arith))
 
 -- Of those that are chosen.
 pub max-chosen : (n : ℕ) (chosen : ℕ → Bool) (f : ℕ → ℕ) (b : ℕ) → ((i : ℕ) → i < n → f i ≤ b)

@@ -201,6 +201,11 @@ unfolding gather
 gather-none zero f h = refl
 gather-none (suc n) f h = ap₂ _++_ (gather-none n f (λ i l. h i (omega arith))) (h n (omega arith))
 
+pub gather-same {ℓ} : {A : Type ℓ} (n : ℕ) (f g : ℕ → List A) → ((i : ℕ) → i < n → f i ≡ g i) → gather n f ≡ gather n g
+unfolding gather
+gather-same zero f g h = refl
+gather-same (suc n) f g h = ap₂ _++_ (gather-same n f g (λ i l. h i (omega arith))) (h n (omega arith))
+
 pub gather-one {ℓ} : {A : Type ℓ} (n : ℕ) (f : ℕ → List A) (k : ℕ) → k < n → ((i : ℕ) → i < n → i ≢ k → f i ≡ [])
     → gather n f ≡ f k
 unfolding gather

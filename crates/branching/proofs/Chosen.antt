@@ -122,6 +122,18 @@ module _ (p : Project) (comp : ℕ → ℕ) (sound : Sound p) (joint : Component
       (move-earlier p T j u (o .has) (earlier j u o m (omega arith) clear) feasible y)))
       (λ l. omega arith)
 
+  -- The only one of its component that is not frozen starts at its earliest.
+  pub alone-starts : (j u : ℕ) → Open p F j → Soonest p F S j u
+      → ((k : ℕ) → Has p k → F k ≡ false → comp k ≡ comp j → k ≡ j)
+      → T j ≡ u
+  unfolding Clear
+  alone-starts j u o soon alone =
+      omega (
+        arith,
+        soon .least (T j) (room j o),
+        stays j u o (soon .room) (λ k x h z same a b d. omega (arith, b, ap T (alone k h z same))),
+      )
+
   module _ (e : ℕ → ℕ) (soon : (i : ℕ) → Open p F i → Soonest p F S i (e i)) (t c : ℕ)
       (tick : LeastEnd p comp F e t c) where
     late : (k : ℕ) → Has p k → F k ≡ false → t ≤ endOf p T k

@@ -3,12 +3,14 @@
 use Prim.Native.Nat.{ℕ, _+_, _≤_, _<_}
 use native.Mathlib.Decide.{ℕ-discrete}
 use native.Mathlib.Omega.{arith}
-use mathlib.Core.Bool.{Bool, true, false}
+use mathlib.Core.Bool.{Bool, true, false, _&&_, _||_, or-true}
 use mathlib.Core.Path.{_≡_, sym, ap, _∙_}
 use mathlib.Core.Logic.{_≢_, by-cases}
+use lib.Dec.{ltb, eqb}
+use borrow.Author.Tests.{eqb-true, eq-eqb, ltb-true, lt-ltb}
 use Rattle.schedule.specs.Project.{Project}
 use Rattle.schedule.specs.Schedule.{Starts, moved}
-use Rattle.base.proofs.Bools.{true-not-false}
+use Rattle.base.proofs.Bools.{by-bool, true-not-false, both, and-left, and-right}
 use Rattle.schedule.proofs.Load.{Has, among, moved-same, moved-other}
 use Rattle.schedule.proofs.Reflect.{Feasible}
 use Rattle.schedule.proofs.Agree.{Agree}
@@ -25,6 +27,25 @@ Components p comp =
 pub record Ahead (a i b j : ℕ) : Type 0 where
   pub low : a ≤ b
   pub tie : a ≡ b → i < j
+
+-- Its test.
+pub ahead-is : (a i b j : ℕ) → (ltb a b || (eqb a b && ltb i j)) ≡ true → Ahead a i b j
+ahead-is a i b j y =
+    by-bool (ltb a b)
+    (λ l. let less = ltb-true a b l in record { low = omega (arith, less); tie = λ e. absurd (omega (arith, less, e)) })
+    (λ z.
+    let two : (eqb a b && ltb i j) ≡ true = sym (ap (λ (x : Bool). x || (eqb a b && ltb i j)) z) ∙ y in
+    record {
+      low = omega (arith, eqb-true a b (and-left (eqb a b) (ltb i j) two));
+      tie = λ e. ltb-true i j (and-right (eqb a b) (ltb i j) two);
+    })
+
+pub ahead-of : (a i b j : ℕ) → Ahead a i b j → (ltb a b || (eqb a b && ltb i j)) ≡ true
+ahead-of a i b j h =
+    by-cases (ℕ-discrete a b)
+    (λ e.
+    ap (λ (x : Bool). ltb a b || x) (both (eq-eqb a b e) (lt-ltb i j (h .tie e))) ∙ or-true (ltb a b))
+    (λ ne. ap (λ (x : Bool). x || (eqb a b && ltb i j)) (lt-ltb a b (omega (arith, h .low, ne))))
 
 pub record Under (p : Project) (comp : ℕ → ℕ) (F : ℕ → Bool) (S T : Starts) : Type 0 where
   pub agrees : Agree (among p F) S T

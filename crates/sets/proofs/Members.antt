@@ -125,14 +125,17 @@ pub members-none : members 0 ≡ []
 unfolding members membersBelow gather has
 members-none = refl
 
+has-after : (m : ℕ) → m < 2 ^ most → m ≢ 0 → (k : ℕ)
+    → has (afterLowest m) k ≡ (has m k && not (eqb k (lowestOf m)))
+has-after m h ne k =
+    let low = lowest-is m h ne in
+    ap (λ (x : ℕ). has x k) (low .others) ∙ has-without m (lowestOf m) k (low .member)
+
 pub members-step : (m : ℕ) → m < 2 ^ most → m ≢ 0 → members m ≡ lowestOf m ∷ members (afterLowest m)
 unfolding members
 members-step m h ne =
     let low = lowest-is m h ne in
-    first-below m (lowestOf m) (afterLowest m) (low .member) (low .none)
-    (λ j. ap (λ (x : ℕ). has x j) (low .others) ∙ has-without m (lowestOf m) j (low .member))
-    most
-    (low .inside)
+    first-below m (lowestOf m) (afterLowest m) (low .member) (low .none) (has-after m h ne) most (low .inside)
 
 -- A fold over the members that goes the way of `whole`, at each number below n.
 pub fold-members : {A : Type 0} (m : ℕ) (step : A → ℕ → A) (whole : ℕ → A)
@@ -153,10 +156,7 @@ pub after-less : (m : ℕ) → m < 2 ^ most → m ≢ 0 → afterLowest m < m
 after-less m h ne = omega (arith, lowest-is m h ne .others, pow-pos (lowestOf m))
 
 pub after-has : (m : ℕ) → m < 2 ^ most → m ≢ 0 → (j : ℕ) → has (afterLowest m) j ≡ true → has m j ≡ true
-after-has m h ne j e =
-    let low = lowest-is m h ne in
-    and-left (has m j) (not (eqb j (lowestOf m)))
-    (sym (ap (λ (x : ℕ). has x j) (low .others) ∙ has-without m (lowestOf m) j (low .member)) ∙ e)
+after-has m h ne j e = and-left (has m j) (not (eqb j (lowestOf m))) (sym (has-after m h ne j) ∙ e)
 
 -- ---- a loop over the members: what the fold from here gives is kept by a turn, and is the value where none is left
 
@@ -180,6 +180,18 @@ ended step {a} none so-far =
 
 pub lowest-has : (m i : ℕ) → m < 2 ^ most → m ≢ 0 → i ≡ lowestOf m → has m i ≡ true
 lowest-has m i h ne e = ap (has m) e ∙ lowest-is m h ne .member
+
+-- What a turn of a loop over the members leaves, i being the one it takes.
+module _ (m rest i : ℕ) (low : m < 2 ^ most) (more : m ≢ 0) (at : i ≡ lowestOf m) (after : rest ≡ afterLowest m) where
+  pub rest-is : (k : ℕ) → has rest k ≡ (has m k && not (eqb k i))
+  rest-is k =
+      ap (λ (x : ℕ). has x k) after ∙ has-after m low more k ∙ ap (λ (x : ℕ). has m k && not (eqb k x)) (sym at)
+
+  pub rest-last : (k : ℕ) → has m k ≡ true → has rest k ≡ false → k ≡ i
+  rest-last k y n =
+      by-cases (ℕ-discrete k i)
+      (λ e. e)
+      (λ ne. true-not-false (rest-is k ∙ ap₂ (λ (a b : Bool). a && not b) y (ne-eqb k i ne)) n)
 
 pub after-none : (m : ℕ) → m ≡ 0 → afterLowest m ≡ 0
 unfolding afterLowest

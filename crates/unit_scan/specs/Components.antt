@@ -1,5 +1,5 @@
--- What is contested together: resources are joined by the activities that hold units of both. A component has the number
--- of its least activity; one that holds nothing is alone.
+-- What is contested together: resources are joined by the activities that hold units of both, whether a variant has them
+-- or not. A component has the number of its least activity; one that holds nothing is alone.
 use Prim.Native.Nat.{ℕ, zero, suc}
 use mathlib.Core.Bool.{Bool, cond, _&&_, not}
 use mathlib.Core.List.{List, [], _∷_}
@@ -10,7 +10,7 @@ use Rattle.schedule.specs.Project.{Project}
 
 module _ (p : Project) where
   abbrev pub uses : ℕ → ℕ → Bool
-  uses r i = p .present i && ltb 0 (p .units i r)
+  uses r i = ltb 0 (p .units i r)
 
   -- The components that have an activity on resource r become one, with the least of their numbers.
   abbrev pub numbersOn : (ℕ → ℕ) → ℕ → List ℕ

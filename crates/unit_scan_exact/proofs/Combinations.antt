@@ -3,47 +3,29 @@
 use Prim.Native.Nat.{ℕ, zero, suc, _+_, _≤_, _<_}
 use native.Mathlib.Decide.{ℕ-discrete}
 use native.Mathlib.Omega.{arith}
-use mathlib.Core.Bool.{Bool, true, false, not, _&&_, _||_, or-true}
+use mathlib.Core.Bool.{Bool, true, false, _&&_, and-false}
 use mathlib.Core.List.{List, [], _∷_, map, foldl, append-nil, List·Memᴰ, List·Memᴰ·not-nil}
 use mathlib.Core.Logic.{_≢_, by-cases}
-use mathlib.Core.Path.{_≡_, refl, sym, ap, _∙_, fun-ext, subst}
-use lib.Dec.{ltb, eqb}
-use borrow.Author.Tests.{eqb-true, eq-eqb, ltb-true, lt-ltb, not-true}
+use mathlib.Core.Path.{_≡_, refl, sym, ap, ap₂, _∙_, fun-ext, subst}
+use lib.Dec.{eqb}
+use borrow.Author.Tests.{eqb-true, ne-eqb}
 use Rattle.base.specs.Below.{_implies_}
 use Rattle.base.specs.Lists.{gather}
-use Rattle.base.proofs.Bools.{by-bool, true-not-false, both, and-left, and-right, elim-true, elim-false}
-use Rattle.base.proofs.Below.{every-at, every-of, implies-elim, implies-intro}
+use Rattle.base.proofs.Bools.{by-bool, true-not-false, and-right, elim-true, elim-false}
+use Rattle.base.proofs.Below.{every-same, implies-intro}
 use Rattle.schedule.specs.Project.{Project}
-use Rattle.schedule.specs.Schedule.{endOf, moved}
 use Rattle.schedule.proofs.Load.{Has}
-use Rattle.branching.proofs.Room.{Frozen, Open, Soonest, adding, adding-new, adding-old, adding-other}
-use Rattle.branching.proofs.Under.{Ahead, Under, LeastEnd, Choice}
-use Rattle.branching.proofs.Rows.{Rows, branch-rows}
+use Rattle.branching.proofs.Room.{adding, adding-new, adding-old, adding-other}
+use Rattle.branching.proofs.Under.{Under}
+use Rattle.branching.proofs.Rows.{Rows}
 use Rattle.scan.specs.Scan.{Diagram}
 use Rattle.scan.proofs.Joined.{joined, joined-gather, joined-if}
-use Rattle.unit_scan.specs.Scan.{readyTick, nextFit, rightEnd, isLoose, isDirect, isContested, isAhead, isNext}
-use Rattle.unit_scan.specs.Scan.{inConflict, combinationsFrom, combinations, freeze, shift, select, resolve}
-use Rattle.unit_scan_exact.proofs.Standing.{Scannable, Standing, placed-open, soonest-open, soonest-same}
-use Rattle.unit_scan_exact.proofs.Selected.{select-kept, select-off, select-standing, select-rows}
-use Rattle.unit_scan_exact.proofs.Attached.{some-is}
-
-ahead-is : (a i b j : ℕ) → (ltb a b || (eqb a b && ltb i j)) ≡ true → Ahead a i b j
-ahead-is a i b j y =
-    by-bool (ltb a b)
-    (λ l. let less = ltb-true a b l in record { low = omega (arith, less); tie = λ e. absurd (omega (arith, less, e)) })
-    (λ z.
-    let two : (eqb a b && ltb i j) ≡ true = sym (ap (λ (x : Bool). x || (eqb a b && ltb i j)) z) ∙ y in
-    record {
-      low = omega (arith, eqb-true a b (and-left (eqb a b) (ltb i j) two));
-      tie = λ e. ltb-true i j (and-right (eqb a b) (ltb i j) two);
-    })
-
-ahead-of : (a i b j : ℕ) → Ahead a i b j → (ltb a b || (eqb a b && ltb i j)) ≡ true
-ahead-of a i b j h =
-    by-cases (ℕ-discrete a b)
-    (λ e.
-    ap (λ (x : Bool). ltb a b || x) (both (eq-eqb a b e) (lt-ltb i j (h .tie e))) ∙ or-true (ltb a b))
-    (λ ne. ap (λ (x : Bool). x || (eqb a b && ltb i j)) (lt-ltb a b (omega (arith, h .low, ne))))
+use Rattle.unit_scan.specs.Scan.{isDirect, isContested, isAhead, isNext, inConflict, combinationsFrom, combinations}
+use Rattle.unit_scan.specs.Scan.{freeze, shift, select, resolve}
+use Rattle.unit_scan_exact.proofs.Standing.{Scannable, Standing}
+use Rattle.unit_scan_exact.proofs.Selected.{select-kept, select-off, select-standing}
+use Rattle.unit_scan_exact.proofs.Attached.{some-is, some-of}
+use Rattle.unit_scan_exact.proofs.Choices.{Conflict, conflict-parts, parts-conflict, branched}
 
 module _ (p : Project) (comp : ℕ → ℕ) (given : Scannable p comp) (mark : ℕ) (d : Diagram)
     (standing : Standing p d (d .tick)) where
@@ -59,148 +41,49 @@ module _ (p : Project) (comp : ℕ → ℕ) (given : Scannable p comp) (mark : �
     pub fewer : (c : ℕ) → c < r → isContested p comp d c ≡ true
         → (j : ℕ) × Has p j × (d .frozen j ≡ false) × (e .frozen j ≡ true)
 
+  abbrev after-all : Diagram → ℕ → ℕ → Bool
+  after-all x j k =
+      (x .frozen k && p .free k && eqb (comp k) (comp j)) implies isAhead p comp (x .starts k) k (x .starts j) j
+
+  apart : (x : Diagram) (j k : ℕ) → comp k ≢ comp j → after-all x j k ≡ true
+  apart x j k ne =
+      implies-intro (x .frozen k && p .free k && eqb (comp k) (comp j)) (isAhead p comp (x .starts k) k (x .starts j) j)
+      (λ y.
+      absurd (ne (eqb-true (comp k) (comp j) (and-right (x .frozen k && p .free k) (eqb (comp k) (comp j)) y))))
+
+  elsewhere : (x : Diagram) (r j : ℕ) → comp j ≢ r → inConflict p comp x r j ≡ false
+  elsewhere x r j off = rw (ne-eqb (comp j) r off, and-false)
+
   module _ (e : Diagram) (r : ℕ) (now : Resolved e r) where
-    abbrev soonIn : ℕ → ℕ
-    soonIn i = nextFit p comp e i (readyTick p comp e i)
-
-    soon : (i : ℕ) → Open p (e .frozen) i → Soonest p (e .frozen) (e .starts) i (soonIn i)
-    soon i o = soonest-open p e (e .tick) (now .stands) comp given i o
-
-    -- What is placed and not frozen stands there.
-    stands-at : (i : ℕ) → e .placed i ≡ true → e .frozen i ≡ false → e .starts i ≡ soonIn i
-    stands-at i y z =
-        soonest-same p (e .frozen) (e .starts) i (e .starts i) (soonIn i) (now .stands .at i y z)
-        (soon i (placed-open p e (e .tick) (now .stands) i y z))
-
-    -- A component that is contested: one of it that is not frozen ends first of all.
-    contested : isContested p comp d r ≡ true → LeastEnd p comp (e .frozen) soonIn (e .tick) r
-    contested some =
-        let (i, l, y) = some-is p comp (λ i. isDirect p comp d i && eqb (comp i) r) some in
-        let direct : isDirect p comp d i ≡ true = and-left (isDirect p comp d i) (eqb (comp i) r) y in
-        let on : comp i ≡ r = eqb-true (comp i) r (and-right (isDirect p comp d i) (eqb (comp i) r) y) in
-        let loose : isLoose p comp d i ≡ true =
-        and-left (isLoose p comp d i) (eqb (rightEnd p comp d i) (d .tick)) direct in
-        let end : endOf p (d .starts) i ≡ d .tick =
-        eqb-true (rightEnd p comp d i) (d .tick)
-        (and-right (isLoose p comp d i) (eqb (rightEnd p comp d i) (d .tick)) direct) in
-        let (frozen, starts) = now .same i (omega (arith, on)) in
-        let there : e .placed i ≡ true = now .placed i ∙ and-left (d .placed i) (not (d .frozen i)) loose in
-        let waits : e .frozen i ≡ false =
-        frozen ∙ not-true (d .frozen i) (and-right (d .placed i) (not (d .frozen i)) loose) in
-        record {
-          least = λ k o. now .stands .late k o (soonIn k) (soon k o .room);
-          who = i;
-          is-open = placed-open p e (e .tick) (now .stands) i there waits;
-          on = on;
-          ends = omega (arith, stands-at i there waits, starts, end, now .tick);
-        }
-
-    -- The conflict activities are the choices.
-    conflict-is : (j : ℕ) → inConflict p comp d r j ≡ true
-        → Choice p comp (e .frozen) (e .starts) soonIn (e .tick) r j
-    conflict-is j y =
-        let three : (isLoose p comp d j && eqb (comp j) r && ltb (d .starts j) (d .tick)) ≡ true =
-        and-left (isLoose p comp d j && eqb (comp j) r && ltb (d .starts j) (d .tick)) (isNext p comp d j) y in
-        let two : (isLoose p comp d j && eqb (comp j) r) ≡ true =
-        and-left (isLoose p comp d j && eqb (comp j) r) (ltb (d .starts j) (d .tick)) three in
-        let loose : isLoose p comp d j ≡ true = and-left (isLoose p comp d j) (eqb (comp j) r) two in
-        let on : comp j ≡ r = eqb-true (comp j) r (and-right (isLoose p comp d j) (eqb (comp j) r) two) in
-        let early : d .starts j < d .tick =
-        ltb-true (d .starts j) (d .tick)
-        (and-right (isLoose p comp d j && eqb (comp j) r) (ltb (d .starts j) (d .tick)) three) in
-        let next : isNext p comp d j ≡ true =
-        and-right (isLoose p comp d j && eqb (comp j) r && ltb (d .starts j) (d .tick)) (isNext p comp d j) y in
+    -- The component r is as it was.
+    conflict-same : (j : ℕ) → inConflict p comp e r j ≡ inConflict p comp d r j
+    conflict-same j =
+        by-cases (ℕ-discrete (comp j) r)
+        (λ on.
         let (frozen, starts) = now .same j (omega (arith, on)) in
-        let there : e .placed j ≡ true = now .placed j ∙ and-left (d .placed j) (not (d .frozen j)) loose in
-        let waits : e .frozen j ≡ false =
-        frozen ∙ not-true (d .frozen j) (and-right (d .placed j) (not (d .frozen j)) loose) in
-        let at : e .starts j ≡ soonIn j = stands-at j there waits in
-        record {
-          is-open = placed-open p e (e .tick) (now .stands) j there waits;
-          on = on;
-          before = omega (arith, at, starts, early, now .tick);
-          after =
-              λ k f free same.
-              let (frozen-k, starts-k) = now .same k (omega (arith, same)) in
-              let a : Ahead (d .starts k) k (d .starts j) j =
-              ahead-is (d .starts k) k (d .starts j) j
-              (implies-elim (d .frozen k && p .free k && eqb (comp k) (comp j))
-              (isAhead p comp (d .starts k) k (d .starts j) j)
-              (every-at (p .size)
-              (λ m.
-              (d .frozen m && p .free m && eqb (comp m) (comp j))
-              implies isAhead p comp (d .starts m) m (d .starts j) j)
-              next k (f .below))
-              (both (both (sym frozen-k ∙ f .there) free) (eq-eqb (comp k) (comp j) (same ∙ sym on)))) in
-              record {
-                low = omega (arith, a .low, starts-k, starts, at);
-                tie = λ z. a .tie (omega (arith, starts-k, starts, at, z));
-              };
-        }
-
-    -- Its parts.
-    record Chosen (j : ℕ) : Type 0 where
-      there : e .placed j ≡ true
-      waits : e .frozen j ≡ false
-      on : comp j ≡ r
-      early : e .starts j < e .tick
-      old : d .frozen j ≡ false
-      at : e .starts j ≡ soonIn j
-
-    chosen : (j : ℕ) → Choice p comp (e .frozen) (e .starts) soonIn (e .tick) r j → Chosen j
-    chosen j b =
-        let there : e .placed j ≡ true =
-        by-bool (e .placed j) (λ y. y)
-        (λ z.
-        absurd
-        (omega (
-          arith,
-          b .before,
-          now .stands .unplaced j (b .is-open) z (soonIn j) (soon j (b .is-open) .room),
-        ))) in
-        let waits : e .frozen j ≡ false = b .is-open .waits in
-        let (frozen, _) = now .same j (omega (arith, b .on)) in
-        let at : e .starts j ≡ soonIn j = stands-at j there waits in
-        record {
-          there = there;
-          waits = waits;
-          on = b .on;
-          early = omega (arith, at, b .before);
-          old = sym frozen ∙ waits;
-          at = at;
-        }
-
-    conflict-of : (j : ℕ) → Choice p comp (e .frozen) (e .starts) soonIn (e .tick) r j
-        → inConflict p comp d r j ≡ true
-    conflict-of j b =
-        let x = chosen j b in
-        let (_, starts) = now .same j (omega (arith, b .on)) in
-        both
-        (both
-        (both (both (sym (now .placed j) ∙ x .there) (ap not (x .old))) (eq-eqb (comp j) r (x .on)))
-        (lt-ltb (d .starts j) (d .tick) (omega (arith, x .early, starts, now .tick))))
-        (every-of (p .size)
-        (λ k.
-        (d .frozen k && p .free k && eqb (comp k) (comp j))
-        implies isAhead p comp (d .starts k) k (d .starts j) j)
+        let next : isNext p comp e j ≡ isNext p comp d j =
+        every-same (p .size) (after-all e j) (after-all d j)
         (λ k l.
-        implies-intro (d .frozen k && p .free k && eqb (comp k) (comp j))
-        (isAhead p comp (d .starts k) k (d .starts j) j)
-        (λ y.
-        let two : (d .frozen k && p .free k) ≡ true =
-        and-left (d .frozen k && p .free k) (eqb (comp k) (comp j)) y in
-        let on : comp k ≡ r =
-        eqb-true (comp k) (comp j) (and-right (d .frozen k && p .free k) (eqb (comp k) (comp j)) y) ∙ x .on in
-        let (frozen, starts-k) = now .same k (omega (arith, on)) in
-        let f : Frozen p (e .frozen) k =
-        record { below = l; there = frozen ∙ and-left (d .frozen k) (p .free k) two } in
-        let a : Ahead (e .starts k) k (soonIn j) j =
-        b .after k f (and-right (d .frozen k) (p .free k) two) on in
-        ahead-of (d .starts k) k (d .starts j) j
-        (record {
-          low = omega (arith, a .low, starts-k, starts, x .at);
-          tie = λ z. a .tie (omega (arith, starts-k, starts, x .at, z));
-        }))))
+        by-cases (ℕ-discrete (comp k) (comp j))
+        (λ same.
+        let (frozen-k, starts-k) = now .same k (omega (arith, on, same)) in
+        ap₂
+        (λ (f : Bool) (a : ℕ). (f && p .free k && eqb (comp k) (comp j)) implies isAhead p comp a k (e .starts j) j)
+        frozen-k starts-k
+        ∙ ap
+        (λ (b : ℕ).
+        (d .frozen k && p .free k && eqb (comp k) (comp j)) implies isAhead p comp (d .starts k) k b j)
+        starts)
+        (λ ne. apart e j k ne ∙ sym (apart d j k ne))) in
+        rw (next, now .placed j, frozen, starts, now .tick))
+        (λ off. elsewhere e r j off ∙ sym (elsewhere d r j off))
+
+    contested-same : isContested p comp d r ≡ true → isContested p comp e r ≡ true
+    contested-same some =
+        let (i, l, y) = some-is p comp (λ i. isDirect p comp d i && eqb (comp i) r) some in
+        let on : comp i ≡ r = eqb-true (comp i) r (and-right (isDirect p comp d i) (eqb (comp i) r) y) in
+        let (frozen, starts) = now .same i (omega (arith, on)) in
+        some-of p comp (λ i. isDirect p comp e i && eqb (comp i) r) i l (rw (now .placed i, frozen, starts, now .tick) y)
 
     skip : isContested p comp d r ≡ false → Resolved e (suc r)
     skip none =
@@ -217,12 +100,11 @@ module _ (p : Project) (comp : ℕ → ℕ) (given : Scannable p comp) (mark : �
               (λ ne. now .fewer c (omega (arith, l, ne)) y);
         }
 
-    selected : (j : ℕ) → Choice p comp (e .frozen) (e .starts) soonIn (e .tick) r j
-        → Resolved (select p comp e j) (suc r)
+    selected : (j : ℕ) → Conflict p comp given e (now .stands) r j → Resolved (select p comp e j) (suc r)
     unfolding freeze shift
-    selected j b =
-        let x = chosen j b in
+    selected j x =
         let kept = select-kept p comp given e (now .stands) j (x .there) (x .waits) (x .early) in
+        let (frozen-j, _) = now .same j (omega (arith, x .on)) in
         record {
           stands = select-standing p comp given e (now .stands) j (x .there) (x .waits) (x .early);
           tick = now .tick;
@@ -240,7 +122,13 @@ module _ (p : Project) (comp : ℕ → ℕ) (given : Scannable p comp) (mark : �
                 adding-other (e .frozen) j i (λ z. off (ap comp z)) ∙ frozen,
                 select-off p comp given e (now .stands) j (x .there) (x .waits) (x .early) i off ∙ starts,
               );
-          fewer = λ c l y. (j, b .is-open .has, x .old, adding-new (e .frozen) j);
+          fewer =
+              λ c l y. (
+                j,
+                now .stands .inside j (x .there),
+                sym frozen-j ∙ x .waits,
+                adding-new (e .frozen) j,
+              );
         }
 
   module _ (rows : Diagram → List (List ℕ))
@@ -284,29 +172,21 @@ module _ (p : Project) (comp : ℕ → ℕ) (given : Scannable p comp) (mark : �
         by-bool (isContested p comp d r)
         (λ y.
         subst (Rows p mark (Under p comp (e .frozen) (e .starts))) (sym (at-contested e r n y))
-        (branch-rows p comp mark (e .frozen) (e .starts) (given .sound) (given .joint) (now .stands .node)
-        (soonIn e r now) (soon e r now) (e .tick) r (contested e r now y) (p .size) (λ i. choice e r n i)
-        (record {
-          inside = λ j b. b .is-open .has .below;
-          each =
-              λ j b.
-              let x = chosen e r now j b in
-              subst (Rows p mark (Under p comp (adding (e .frozen) j) (moved (e .starts) j (soonIn e r now j))))
-              (sym
-              (elim-true (inConflict p comp d r j) (schedulesFrom (select p comp e j) (suc r) n) []
-              (conflict-of e r now j b)))
-              (select-rows p comp given e (now .stands) j (x .there) (x .waits) (x .early) mark (soonIn e r now j)
-              (schedulesFrom (select p comp e j) (suc r) n) (x .at)
-              (walk n (suc r) (select p comp e j) (omega (arith, all)) (selected e r now j b)));
-          other =
-              λ j row m.
-              by-bool (inConflict p comp d r j) (λ c. conflict-is e r now j c)
-              (λ z.
-              absurd
-              (List·Memᴰ·not-nil
-              (subst (List·Memᴰ row)
-              (elim-false (inConflict p comp d r j) (schedulesFrom (select p comp e j) (suc r) n) [] z) m)));
-        })))
+        (branched p comp given e (now .stands) r mark (λ i. choice e r n i) (contested-same e r now y)
+        (λ j x.
+        subst (Rows p mark (Under p comp (select p comp e j .frozen) (select p comp e j .starts)))
+        (sym
+        (elim-true (inConflict p comp d r j) (schedulesFrom (select p comp e j) (suc r) n) []
+        (sym (conflict-same e r now j) ∙ parts-conflict p comp given e (now .stands) r j x)))
+        (walk n (suc r) (select p comp e j) (omega (arith, all)) (selected e r now j x)))
+        (λ j row m.
+        conflict-parts p comp given e (now .stands) r j
+        (by-bool (inConflict p comp d r j) (λ c. conflict-same e r now j ∙ c)
+        (λ z.
+        absurd
+        (List·Memᴰ·not-nil
+        (subst (List·Memᴰ row)
+        (elim-false (inConflict p comp d r j) (schedulesFrom (select p comp e j) (suc r) n) [] z) m)))))))
         (λ z.
         subst (Rows p mark (Under p comp (e .frozen) (e .starts))) (sym (at-other e r n z))
         (walk n (suc r) e (omega (arith, all)) (skip e r now z)))

@@ -38,7 +38,7 @@ module _ (p : Project) where
       cond-false (comp i) (leastOf (numbersOn p comp r))
       (by-bool (everyBelow (p .size) (apart comp r (comp i)))
       (λ y.
-      true-not-false (both (both (h .there) (lt-ltb 0 (p .units i r) u)) (eq-eqb (comp i) (comp i) refl))
+      true-not-false (both (lt-ltb 0 (p .units i r) u) (eq-eqb (comp i) (comp i) refl))
       (not-true (uses p r i && eqb (comp i) (comp i)) (every-at (p .size) (apart comp r (comp i)) y i (h .below))))
       (λ z. z))
 

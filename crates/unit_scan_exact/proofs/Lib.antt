@@ -5,6 +5,7 @@ pub mod Selected
 pub mod Attached
 pub mod Moved
 pub mod Components
+pub mod Choices
 pub mod Combinations
 pub mod Fewer
 pub mod Schedules

@@ -153,6 +153,10 @@ module _ (p : Project) (comp : ℕ → ℕ) (given : Scannable p comp) (rank : �
   unfolding move
   move-first x (s, m, l) = omega (arith, least-below stops s m, l)
 
+  -- No end of what is placed and in T comes before it.
+  pub move-upto : (i : ℕ) → d .placed i ≡ true → d .term i ≡ true → move p comp d .tick ≤ endOf p (d .starts) i
+  move-upto i y t = move-first (endOf p S i) (endOf p S i, stop-placed i y t, omega arith)
+
   module _ (rest : isComplete p comp d ≡ false) where
     pub move-stops : Stops p comp d (move p comp d .tick)
     unfolding move

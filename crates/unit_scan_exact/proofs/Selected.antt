@@ -115,7 +115,8 @@ module _ (p : Project) (comp : ℕ → ℕ) (given : Scannable p comp) (d : Diag
             );
       }
 
-  room-back : (i x : ℕ) → Room p G R i x → Room p F S i x
+  pub room-back : (i x : ℕ) → Room p (adding (d .frozen) j) (select p comp d j .starts) i x
+      → Room p (d .frozen) (d .starts) i x
   room-back i x room = room-less i x (room-agree p G R S i x (agree-sym (among p G) S R agrees) room)
 
   -- What precedes a placed one was frozen before.

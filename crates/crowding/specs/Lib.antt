@@ -1,0 +1,2 @@
+-- What the contracts on how many may yet be contested say.
+pub mod Crowd

@@ -1,0 +1,3 @@
+-- What the contracts on the room among frozen activities say.
+pub mod Work
+pub mod Room

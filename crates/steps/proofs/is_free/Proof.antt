@@ -1,0 +1,123 @@
+-- `is_free` meets its contract.
+use native.Mathlib.Omega.{arith}
+use mathlib.Core.Path.{ap, _∙_}
+use Prim.Native.Nat.{ℕ, _<_}
+use borrow.Author.Needs.{needs}
+use lib.Bits.{bitAnd}
+use Rattle.sets.specs.Sets.{most}
+use Rattle.instance.specs.Table.{actsOf, componentAt}
+use Rattle.profile.specs.Work.{freeAt}
+use Rattle.steps.proofs.Loops.{own-below}
+use Rattle.steps.proofs.Ready.{running-among, free-tight, free-roomy}
+use Rattle.steps.proofs.is_free.Statement.{statement}
+use Rattle.steps.proofs.is_free.Tie as tie
+use Rattle.steps.proofs.is_free.Reads as reads
+use Rattle.steps.proofs.is_free.Lts as lts
+use Rattle.sets.proofs.common.Reads as common-reads
+use Rattle.sets.proofs.contains.Reads as contains-reads
+use Rattle.sets.proofs.lowest.Reads as lowest-reads
+use Rattle.profile.proofs.free_of.Reads as free-of-reads
+use Rattle.profile.proofs.has_room.Reads as has-room-reads
+use Rattle.steps.proofs.running.Reads as running-reads
+
+abbrev Entry : Type 0
+Entry =
+    lts.Start (
+      contains-reads.Asked,
+      contains-reads.Learnt,
+      lowest-reads.Asked,
+      lowest-reads.Learnt,
+      free-of-reads.Asked,
+      free-of-reads.Learnt,
+      running-reads.Asked,
+      running-reads.Learnt,
+      common-reads.Asked,
+      common-reads.Learnt,
+      has-room-reads.Asked,
+      has-room-reads.Learnt,
+    )
+    reads.Pre
+    reads.Post
+
+-- It is an activity.
+own : (s : Entry) → s .args .i < actsOf (s .args .table .now)
+own s = s .pre .0 .left (s .args .i) (s .pre .2)
+
+below : (s : Entry) → s .args .i < most
+below s = omega (arith, own s, s .pre .0 .laid .acts)
+
+add-component : tie.Need-add-component
+add-component c = record { fits = omega (arith, below c) }
+
+mul-component : tie.Need-mul-component
+mul-component c = record { fits = omega (arith, below c) }
+
+element-copy-out-component : tie.Need-element-copy-out-component
+element-copy-out-component c = omega (arith, below c)
+
+element-copy-out-contains : tie.Need-element-copy-out-contains
+element-copy-out-contains c = search needs
+
+contains-requires : tie.Need-contains-requires
+contains-requires c κs = below (c .before .before)
+
+lowest-requires : tie.Need-lowest-requires
+lowest-requires c κs = search needs
+
+free-of-requires : tie.Need-free-of-requires
+free-of-requires c κs =
+    let s = c .before .before .before .before .before in
+    omega (arith, c .lowest .ensures, own-below (s .args .table .now) (s .pre .0 .laid) (s .args .i) (own s))
+
+returns : tie.Need-returns
+returns c =
+    let freed = c .before in
+    let held = freed .before .before .before in
+    let a = held .before .before .before .args in
+    free-tight (a .table .now) (a .work .now) (a .line) (a .i) (held .contains .ensures)
+    (freed .before .before .if1 .taken)
+    (freed .free-of .ensures ∙ ap (freeAt (a .work .now)) (freed .before .lowest .ensures))
+
+running-requires : tie.Need-running-requires
+running-requires c κs = search needs
+
+common-requires : tie.Need-common-requires
+common-requires c κs = search needs
+
+has-room-requires : tie.Need-has-room-requires
+has-room-requires c κs =
+    let s = c .before .before .before .before .before .before in
+    let l = s .args .line in (
+      rw (c .common .ensures, c .before .running .ensures)
+          (running-among (s .args .table .now) l (s .args .work .now) (s .pre .0)
+          (componentAt (s .args .table .now) (s .args .i)) (s .args .i) (s .pre .2)),
+      omega (arith, s .pre .1),
+    )
+
+returns-2 : tie.Need-returns-2
+returns-2 c =
+    let shared = c .before in
+    let runs = shared .before in
+    let held = runs .before .before in
+    let a = held .before .before .before .args in
+    free-roomy (a .table .now) (a .work .now) (a .line) (a .i) (held .contains .ensures) (runs .before .if1 .left)
+    (shared .common .ensures
+    ∙ ap (λ (x : ℕ). bitAnd x (componentAt (a .table .now) (a .i))) (runs .running .ensures))
+    (c .has-room .ensures)
+
+pub is-free-spec : {M : Type 1} → statement M
+is-free-spec =
+    tie.close
+    (tie.spec
+    add-component
+    mul-component
+    element-copy-out-component
+    element-copy-out-contains
+    contains-requires
+    lowest-requires
+    free-of-requires
+    returns
+    running-requires
+    common-requires
+    has-room-requires
+    returns-2)

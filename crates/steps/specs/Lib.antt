@@ -1,0 +1,3 @@
+-- What the contracts of the steps of a move say.
+pub mod Steps
+pub mod Shown
