@@ -1,4 +1,4 @@
-//! Compiles the native peer.
+//! Compiles the native peers.
 
 use std::path::PathBuf;
 use std::process::Command;
@@ -11,11 +11,13 @@ fn run(program: &str, arguments: &[&str]) {
 fn main() {
     println!("cargo:rerun-if-changed=peer");
     let folder = PathBuf::from(std::env::var_os("OUT_DIR").unwrap());
-    let (object, archive) = (folder.join("peer.o"), folder.join("libpeer.a"));
-    let (object, archive) = (object.to_str().unwrap(), archive.to_str().unwrap());
+    let path = |name: &str| folder.join(name).to_str().unwrap().to_string();
     let flags = ["-O3", "-march=native", "-std=c++17", "-fno-exceptions", "-fno-rtti", "-c"];
-    run("g++", &[&flags[..], &["peer/peer.cpp", "-o", object]].concat());
-    run("ar", &["rcs", archive, object]);
+    for name in ["peer", "units"] {
+        let (source, object) = (format!("peer/{name}.cpp"), path(&format!("{name}.o")));
+        run("g++", &[&flags[..], &[&source, "-o", &object]].concat());
+        run("ar", &["rcs", &path("libpeer.a"), &object]);
+    }
     println!("cargo:rustc-link-search=native={}", folder.display());
     println!("cargo:rustc-link-lib=static=peer");
 }

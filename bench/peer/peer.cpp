@@ -1,70 +1,19 @@
-// The search for the active schedules, variant by variant: recursive, sets of activities as masks, arrays stored to and
-// restored. A schedule that a lower variant has is left out, and a variant that is a lower one again is not searched.
-// Rows are sorted as a whole once all are written.
+// The search for the active schedules of a plan of edition 1, variant by variant: recursive, sets of activities as
+// masks, arrays stored to and restored. A schedule that a lower variant has is left out, and a variant that is a lower
+// one again is not searched. Rows are sorted as a whole once all are written.
 #include "peer.h"
 
-#include <string.h>
-
-#include <algorithm>
-#include <array>
-#include <utility>
+#include "shared.h"
 
 namespace {
 
-constexpr int kActivities = 24;
-constexpr int kResources = 16;
-constexpr int kNodes = 64;
-constexpr int kVariants = 4096;
-constexpr uint32_t kMark = 4294967295;
-constexpr uint32_t kNever = UINT32_MAX;
-
-struct Plan {
+struct Plan : Term {
   uint32_t activities = 0;
-  uint32_t nodes = 0;
   uint32_t resource[kActivities];
   uint32_t duration[kActivities];
   // The activities on each resource.
   uint32_t on[kResources] = {};
-  uint8_t letter[kNodes];
-  uint32_t number[kNodes];
-  // Of the term at each node: its variants, and the node behind it.
-  uint32_t variants[kNodes];
-  uint32_t behind[kNodes];
 };
-
-class Reader {
- public:
-  explicit Reader(const uint8_t *file) : at_(file) {}
-
-  // The next number of the file.
-  uint32_t number() {
-    while (*at_ < '0' || *at_ > '9') at_++;
-    uint32_t n = 0;
-    for (; '0' <= *at_ && *at_ <= '9'; at_++) n = 10 * n + (*at_ - '0');
-    return n;
-  }
-
-  // The letter behind `node=`, on the line that begins behind the last number.
-  uint8_t letter() { return at_[6]; }
-
- private:
-  const uint8_t *at_;
-};
-
-void count_variants(Plan &plan, uint32_t node) {
-  uint32_t next = node + 1;
-  uint32_t sum = 0, product = 1;
-  if (plan.letter[node] != 'a') {
-    for (uint32_t child = 0; child < plan.number[node]; child++) {
-      count_variants(plan, next);
-      sum += plan.variants[next];
-      product *= plan.variants[next];
-      next = plan.behind[next];
-    }
-  }
-  plan.variants[node] = plan.letter[node] == 'x' ? sum : product;
-  plan.behind[node] = next;
-}
 
 Plan read(const uint8_t *file) {
   Plan plan;
@@ -77,81 +26,8 @@ Plan read(const uint8_t *file) {
     plan.duration[i] = reader.number();
     plan.on[plan.resource[i]] |= 1u << i;
   }
-  plan.nodes = reader.number();
-  for (uint32_t n = 0; n < plan.nodes; n++) {
-    plan.letter[n] = reader.letter();
-    plan.number[n] = reader.number();
-  }
-  count_variants(plan, 0);
+  read_term(reader, plan);
   return plan;
-}
-
-// The activities of a variant of the term at a node; the predecessors of each are added to `before`.
-uint32_t choose(const Plan &plan, uint32_t node, uint32_t variant, uint32_t *before) {
-  if (plan.letter[node] == 'a') return 1u << plan.number[node];
-  uint32_t child = node + 1;
-  if (plan.letter[node] == 'x') {
-    for (; variant >= plan.variants[child]; child = plan.behind[child]) variant -= plan.variants[child];
-    return choose(plan, child, variant, before);
-  }
-  uint32_t all = 0;
-  uint32_t later = plan.variants[node];
-  for (uint32_t n = 0; n < plan.number[node]; n++, child = plan.behind[child]) {
-    later /= plan.variants[child];
-    uint32_t chosen = choose(plan, child, variant / later % plan.variants[child], before);
-    if (plan.letter[node] == 's') {
-      for (uint32_t set = chosen; set != 0; set &= set - 1) before[__builtin_ctz(set)] |= all;
-    }
-    all |= chosen;
-  }
-  return all;
-}
-
-// A variant that was searched: its activities, the predecessors of each, and the last one before it with the same
-// activities.
-struct Order {
-  uint32_t present;
-  uint32_t before[kActivities];
-  const Order *lower;
-};
-
-// The variants that were searched, found by their activities: a hash table with room for twice as many.
-class Orders {
- public:
-  void clear(uint32_t variants) {
-    bits_ = 1;
-    while (1u << bits_ < 2 * variants) bits_++;
-    memset(last_, 0, sizeof *last_ << bits_);
-    count_ = 0;
-  }
-
-  // The last one with these activities, or the place for it.
-  const Order *&last(uint32_t present) {
-    uint32_t at = present * 2654435769u >> (32 - bits_);
-    while (last_[at] != nullptr && last_[at]->present != present) at = (at + 1) % (1u << bits_);
-    return last_[at];
-  }
-
-  const Order *add(uint32_t present, const uint32_t *before, const Order *lower) {
-    Order &order = orders_[count_++];
-    order.present = present;
-    memcpy(order.before, before, sizeof order.before);
-    order.lower = lower;
-    return &order;
-  }
-
- private:
-  uint32_t bits_;
-  uint32_t count_;
-  const Order *last_[2 * kVariants];
-  Order orders_[kVariants];
-};
-
-// The activities that have other predecessors.
-uint32_t difference(const uint32_t *before, const uint32_t *other) {
-  uint32_t set = 0;
-  for (uint32_t i = 0; i < kActivities; i++) set |= uint32_t{before[i] != other[i]} << i;
-  return set;
 }
 
 class Search {
@@ -319,38 +195,6 @@ class Search {
   Lower lower_[kVariants];
   Orders orders_;
 };
-
-// By the first cells that differ; `std::array` compares more slowly.
-template <size_t W>
-struct Row {
-  uint32_t cells[W];
-
-  bool operator<(const Row &other) const {
-    for (size_t i = 0; i < W; i++) {
-      if (cells[i] != other.cells[i]) return cells[i] < other.cells[i];
-    }
-    return false;
-  }
-};
-
-template <size_t W>
-void sort_rows(uint32_t *area, uint64_t count) {
-  auto *rows = reinterpret_cast<Row<W> *>(area);
-  std::sort(rows, rows + count);
-}
-
-// For each number of activities from 1 on, the sort of rows of one cell more.
-template <size_t... N>
-constexpr auto sorts(std::index_sequence<N...>) {
-  return std::array{sort_rows<N + 2>...};
-}
-
-void answer(uint64_t *out, uint64_t a, uint64_t b, uint64_t c, uint64_t d) {
-  out[0] = a;
-  out[1] = b;
-  out[2] = c;
-  out[3] = d;
-}
 
 }  // namespace
 

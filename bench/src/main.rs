@@ -1,4 +1,4 @@
-//! Prints the table: the planner's time, a native peer's and a plain enumerator's.
+//! Prints the tables: the planner's time, a native peer's and a plain enumerator's, for plans of either edition.
 
 mod peer;
 mod plans;
@@ -6,9 +6,10 @@ mod plans;
 use planner::{Planner, MARK};
 use plans::Plan;
 use reference::file::parse;
-use reference::is_session;
 use reference::orders;
 use reference::project::{Project, Schedule};
+use reference::rows::{rows, Rows};
+use reference::{first_shortest, is_session};
 use std::collections::{HashMap, HashSet};
 
 #[cfg(not(feature = "stand-in"))]
@@ -24,6 +25,9 @@ fn is_timed(sessions: u64) -> bool {
 
 /// The enumerator tries every order on every resource: no more combinations than this.
 const MOST_FOR_ENUMERATOR: u64 = 2_000_000;
+
+/// In edition 2 it adds activities by rising start: no more sessions than this.
+const MOST_BY_START: u64 = 200_000;
 
 const CAP: u32 = 1_000_000;
 
@@ -107,10 +111,24 @@ fn ratio(a: Option<f64>, b: Option<f64>) -> String {
     }
 }
 
-/// The number of sessions, each counted once, and the shortest makespan, by every order on every resource; none where
-/// those are too many.
+/// The number of sessions, each counted once, and the shortest makespan; none where there is too much to try.
 fn enumerated(plan: &reference::file::Plan) -> Option<(u64, u64)> {
-    let project = |variant: u64| Project::new(&plan.activities, &plan.term.variant(variant));
+    match plan.edition {
+        1 => by_orders(plan),
+        _ => by_start(plan),
+    }
+}
+
+fn by_start(plan: &reference::file::Plan) -> Option<(u64, u64)> {
+    match rows(plan, MOST_BY_START, u64::MAX) {
+        Rows::All(rows, _) => Some((rows.len() as u64, first_shortest(plan, &rows).0.makespan)),
+        _ => None,
+    }
+}
+
+/// By every order on every resource.
+fn by_orders(plan: &reference::file::Plan) -> Option<(u64, u64)> {
+    let project = |variant: u64| Project::new(plan, &plan.term.variant(variant));
     let variants = 0..plan.term.variant_count();
     let mut left = MOST_FOR_ENUMERATOR;
     for variant in variants.clone() {
@@ -146,7 +164,7 @@ fn best_table(title: &str, plans: &[Plan]) {
         if is_timed(sessions) {
             let mut planned = [MARK; 24];
             assert_eq!((by_planner(&mut planned), planned), (found, starts), "{name}");
-            let is_session = |v| is_session(&plan.activities, &plan.term.variant(v), &starts);
+            let is_session = |v| is_session(&plan, &plan.term.variant(v), &starts);
             assert!(found.map_or(true, |best| is_session(best.variant)), "{name}");
         }
         let (time, peer_time) = race(24, is_timed(sessions).then_some(by_planner), by_peer);
@@ -232,4 +250,9 @@ fn main() {
     list_growth("Growth of LIST with the number of rows", &plans::by_rows());
     best_table("BEST against the number of sessions", &plans::by_sessions());
     best_table("BEST against the number of activities", &plans::by_activities());
+    let arms = plans::arm_plans();
+    best_table("BEST, edition 2", &arms);
+    list_table("LIST, edition 2", &arms);
+    best_table("BEST against the number of sessions, edition 2", &plans::arms_by_sessions());
+    best_table("BEST against the number of activities, edition 2", &plans::arms_by_activities());
 }

@@ -18,6 +18,20 @@ fn plan(name: &str, activities: &[(usize, u64)], nodes: &str) -> Plan {
     Plan { name: name.to_string(), file: text.into_bytes() }
 }
 
+/// A plan of edition 2: the units of each resource, and of each activity its units of each resource.
+fn plan_of_units(name: &str, capacities: &[u64], activities: &[Vec<u64>], nodes: &str) -> Plan {
+    let mut text = format!("plan=2\nres={}\n", capacities.len());
+    capacities.iter().for_each(|capacity| text += &format!("cap={capacity}\n"));
+    text += &format!("acts={}\n", activities.len());
+    for (i, units) in activities.iter().enumerate() {
+        let counts: String = units.iter().map(|count| format!(",{count}")).collect();
+        text += &format!("act={}{counts}\n", duration(i));
+    }
+    text += &format!("nodes={}\n", nodes.split_whitespace().count());
+    nodes.split_whitespace().for_each(|node| text += &format!("node={node}\n"));
+    Plan { name: name.to_string(), file: text.into_bytes() }
+}
+
 /// Some duration, a different one for each activity.
 fn duration(i: usize) -> u64 {
     1 + (i as u64 * 37 + 11) % 61
@@ -147,6 +161,118 @@ pub fn by_activities() -> Vec<Plan> {
             nodes += &format!(" a,{i}");
         }
         plan(&format!("p of 8, then {tail}"), &activities, &nodes)
+    };
+    [0, 4, 8, 12, 16].map(with_tail).into()
+}
+
+/// The nodes of so many activities side by side.
+fn leaves(count: usize) -> String {
+    (0..count).fold(format!("p,{count}"), |nodes, i| nodes + &format!(" a,{i}"))
+}
+
+/// Activities side by side, each with the units that `units` gives for its number.
+fn flat_units(name: &str, capacities: &[u64], count: usize, units: impl Fn(usize) -> Vec<u64>) -> Plan {
+    let activities: Vec<Vec<u64>> = (0..count).map(units).collect();
+    plan_of_units(name, capacities, &activities, &leaves(count))
+}
+
+/// Benches of two arms each, with so many activities of one arm side by side on each.
+fn on_two_arms(sizes: &[usize]) -> Plan {
+    let benches: Vec<usize> = sizes.iter().enumerate().flat_map(|(bench, &size)| vec![bench; size]).collect();
+    let names: Vec<String> = sizes.iter().map(usize::to_string).collect();
+    let units = |i: usize| (0..sizes.len()).map(|bench| u64::from(bench == benches[i])).collect();
+    flat_units(&format!("p of {} on 2 arms", names.join("+")), &vec![2; sizes.len()], benches.len(), units)
+}
+
+/// Every third activity needs both arms.
+fn both_arms(count: usize) -> Plan {
+    let units = |i: usize| vec![if i % 3 == 2 { 2 } else { 1 }];
+    flat_units(&format!("p of {count}, both arms"), &[2], count, units)
+}
+
+/// One or two of three units.
+fn three_ways(count: usize) -> Plan {
+    flat_units(&format!("p of {count} on 3 units"), &[3], count, |i| vec![1 + i as u64 % 2])
+}
+
+/// Jobs side by side, each a sequence of activities with the units that `units` gives for a job and a step.
+fn shop_units(
+    name: &str,
+    capacities: &[u64],
+    jobs: usize,
+    steps: usize,
+    units: impl Fn(usize, usize) -> Vec<u64>,
+) -> Plan {
+    let activities: Vec<Vec<u64>> = (0..jobs * steps).map(|i| units(i / steps, i % steps)).collect();
+    let job =
+        |job: usize| (0..steps).fold(format!(" s,{steps}"), |nodes, i| nodes + &format!(" a,{}", job * steps + i));
+    let nodes = (0..jobs).fold(format!("p,{jobs}"), |nodes, n| nodes + &job(n));
+    plan_of_units(name, capacities, &activities, &nodes)
+}
+
+/// An arm, an arm and the camera, or the camera.
+fn arm_or_camera(place: usize) -> Vec<u64> {
+    [vec![1, 0], vec![1, 1], vec![0, 1]][place % 3].clone()
+}
+
+/// Two arms and a camera, which each job uses in turn.
+fn camera_shop(jobs: usize, steps: usize) -> Plan {
+    let units = |job: usize, step: usize| arm_or_camera(job + step);
+    shop_units(&format!("camera shop {jobs} x {steps}"), &[2, 1], jobs, steps, units)
+}
+
+/// Two arms, a camera and a stand of two places, of which an activity holds one or two.
+fn stand_shop(jobs: usize, steps: usize) -> Plan {
+    let units = |job: usize, step: usize| {
+        [vec![1, 1, 0], vec![1, 0, 1], vec![2, 0, 1], vec![0, 1, 1]][(job + step) % 4].clone()
+    };
+    shop_units(&format!("stand shop {jobs} x {steps}"), &[2, 1, 2], jobs, steps, units)
+}
+
+/// Two arms and a camera: a p over so many x, each of two activities in sequence or else side by side, and three
+/// activities more. The variants have the same activities and share many sessions.
+fn arm_orders(choices: usize) -> Plan {
+    let activities: Vec<Vec<u64>> = (0..2 * choices + 3).map(arm_or_camera).collect();
+    let choice = |i: usize| {
+        let (a, b) = (2 * i, 2 * i + 1);
+        format!(" x,2 s,2 a,{a} a,{b} p,2 a,{a} a,{b}")
+    };
+    let nodes = (0..choices).fold(format!("p,{}", choices + 3), |nodes, i| nodes + &choice(i));
+    let nodes = (2 * choices..2 * choices + 3).fold(nodes, |nodes, i| nodes + &format!(" a,{i}"));
+    plan_of_units(&format!("arms, {choices} x of 2 orders"), &[2, 1], &activities, &nodes)
+}
+
+pub fn arm_plans() -> Vec<Plan> {
+    vec![
+        on_two_arms(&[8]),
+        both_arms(9),
+        camera_shop(3, 6),
+        stand_shop(4, 4),
+        three_ways(10),
+        on_two_arms(&[6, 6]),
+        on_two_arms(&[9]),
+        camera_shop(5, 3),
+        arm_orders(4),
+        camera_shop(3, 8),
+    ]
+}
+
+/// Twelve activities side by side, on benches of two arms, the sessions more and more.
+pub fn arms_by_sessions() -> Vec<Plan> {
+    let sizes: [&[usize]; 6] = [&[5, 4, 3], &[7, 3, 2], &[6, 5, 1], &[6, 6], &[8, 4], &[9, 3]];
+    sizes.map(on_two_arms).into()
+}
+
+/// Eight activities side by side on two arms, and then a sequence: 18708 sessions, the activities more and more.
+pub fn arms_by_activities() -> Vec<Plan> {
+    let with_tail = |tail: usize| {
+        let units = |i: usize| if i < 8 { vec![1, 0] } else { arm_or_camera(i) };
+        let activities: Vec<Vec<u64>> = (0..8 + tail).map(units).collect();
+        let mut nodes = leaves(8);
+        if tail > 0 {
+            nodes = (8..8 + tail).fold(format!("s,{} {nodes}", tail + 1), |nodes, i| nodes + &format!(" a,{i}"));
+        }
+        plan_of_units(&format!("p of 8, 2 arms, then {tail}"), &[2, 1], &activities, &nodes)
     };
     [0, 4, 8, 12, 16].map(with_tail).into()
 }

@@ -1,4 +1,5 @@
-//! Links target/staticlib/libvialbluff.a, which `rt staticlib vialbluff` writes, unless the feature `stand-in` is asked for.
+//! Links target/staticlib/libvialbluff.a, which `rt staticlib vialbluff` writes, unless the feature `stand-in` is asked
+//! for.
 
 use std::path::Path;
 

@@ -80,7 +80,8 @@ pub sum-more : (n m : ℕ) (f : ℕ → ℕ) → n ≤ m → sumBelow n f ≤ su
 unfolding sumBelow
 sum-more n zero f h = let e : n ≡ 0 = omega (arith, h) in rw e (omega arith)
 sum-more n (suc m) f h =
-    by-cases (ℕ-discrete n (suc m)) (λ e. rw e (omega arith)) (λ ne. omega (arith, sum-more n m f (omega (arith, h, ne))))
+    by-cases (ℕ-discrete n (suc m)) (λ e. rw e (omega arith))
+    (λ ne. omega (arith, sum-more n m f (omega (arith, h, ne))))
 
 pub sum-stops : (n m : ℕ) (f : ℕ → ℕ) → n ≤ m → ((i : ℕ) → n ≤ i → i < m → f i ≡ 0) → sumBelow m f ≤ sumBelow n f
 unfolding sumBelow

@@ -22,3 +22,17 @@ module _ {ℓ} {A : Type ℓ} (f : A → Bool) where
   pub every-of : (xs : List A) (d : A) → ((i : ℕ) → i < length xs → f (getD xs i d) ≡ true) → every f xs ≡ true
   every-of [] d h = refl
   every-of (x ∷ xs) d h = both (h 0 (omega arith)) (every-of xs d (λ i k. h (suc i) (suc-le-suc k)))
+
+  -- Another test that passes all that passes this one.
+  pub every-then : (g : A → Bool) → ((x : A) → f x ≡ true → g x ≡ true) → (xs : List A) → every f xs ≡ true
+      → every g xs ≡ true
+  every-then g h [] e = refl
+  every-then g h (x ∷ xs) e =
+      both (h x (and-left (f x) (every f xs) e)) (every-then g h xs (and-right (f x) (every f xs) e))
+
+  pub every-both : (g : A → Bool) (xs : List A) → every f xs ≡ true → every g xs ≡ true
+      → every (λ x. f x && g x) xs ≡ true
+  every-both g [] e h = refl
+  every-both g (x ∷ xs) e h =
+      both (both (and-left (f x) (every f xs) e) (and-left (g x) (every g xs) h))
+      (every-both g xs (and-right (f x) (every f xs) e) (and-right (g x) (every g xs) h))

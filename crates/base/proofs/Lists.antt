@@ -7,13 +7,13 @@ use mathlib.Core.Bool.{Bool, true, false, cond, _||_}
 use mathlib.Core.Path.{_≡_, refl, sym, _∙_, ap, ap₂}
 use mathlib.Core.HLevel.{⊥-prop, ¬-prop}
 use mathlib.Core.Logic.{_≢_, _⊎_, inl, inr, ⊎-elim, ∥∥₁-elim, ∥∥₁-map, by-cases}
-use mathlib.Core.List.{List, [], _∷_, _++_, map, foldl, append-nil, Perm, Perm·refl, Perm·append, List·Memᴰ, List·Memᴰ·head}
-use mathlib.Core.List.{List·Memᴰ·tail, List·Mem, List·Memᴰ·not-nil, List·Memᴰ·cases-cons, Memᴰ·append-left}
-use mathlib.Core.List.{Memᴰ·append-right, List·Memᴰ·append-cases, List·Nodup, Memᴰ·cast, Pairwise}
+use mathlib.Core.List.{List, [], _∷_, _++_, map, foldl, append-nil, Perm, Perm·refl, Perm·append, List·Memᴰ}
+use mathlib.Core.List.{List·Memᴰ·head, List·Memᴰ·tail, List·Mem, List·Memᴰ·not-nil, List·Memᴰ·cases-cons}
+use mathlib.Core.List.{Memᴰ·append-left, Memᴰ·append-right, List·Memᴰ·append-cases, List·Nodup, Memᴰ·cast, Pairwise}
 use mathlib.Core.List.{List·Memᴰ·eq-of-singleton, Pairwise·nil, Pairwise·cons, pairwise-cons, pairwise-append}
 use mathlib.Core.List.{Permᴰ·refl, List·Permᴰ, List·Permᴰ·nil, List·Permᴰ·cons, List·Permᴰ·swap, List·Permᴰ·trans}
-use lib.ListN.{length, getD, take, replicate, length-append, length-take, List·getD-append}
-use lib.Seq.{ext-getD, getD-take, getD-append-seam}
+use lib.ListN.{length, getD, take, replicate, length-append, List·getD-append}
+use lib.Seq.{getD-append-seam}
 use lib.Dec.{eqb}
 use borrow.Author.Tests.{eqb-true, eq-eqb}
 use Rattle.base.specs.Lists.{keep, gather, sameRow, isOneOf, leastOf, cellsOf}
@@ -166,16 +166,6 @@ module _ {ℓ} {A : Type ℓ} where
 
 -- ---- map and gather
 
-map-append {ℓ κ} : {A : Type ℓ} {B : Type κ} (f : A → B) (l m : List A) → map f (l ++ m) ≡ map f l ++ map f m
-map-append f [] m = refl
-map-append f (x ∷ xs) m = ap (f x ∷_) (map-append f xs m)
-
-pub map-gather {ℓ κ} : {A : Type ℓ} {B : Type κ} (f : A → B) (n : ℕ) (g : ℕ → List A)
-    → map f (gather n g) ≡ gather n (λ i. map f (g i))
-unfolding gather
-map-gather f zero g = refl
-map-gather f (suc n) g = map-append f (gather n g) (g n) ∙ ap (_++ map f (g n)) (map-gather f n g)
-
 pub singles-length {ℓ} : {A : Type ℓ} (f : ℕ → A) (n : ℕ) → length (gather n λ i. f i ∷ []) ≡ n
 unfolding gather
 singles-length f zero = refl
@@ -222,16 +212,6 @@ pub map-map {ℓ κ μ} : {A : Type ℓ} {B : Type κ} {C : Type μ} (g : B → 
 map-map g f [] = refl
 map-map g f (x ∷ xs) = ap (g (f x) ∷_) (map-map g f xs)
 
-pub map-keep {ℓ κ} : {A : Type ℓ} {B : Type κ} (f : A → B) (test : B → Bool) (l : List A)
-    → map f (keep (λ a. test (f a)) l) ≡ keep test (map f l)
-unfolding keep
-map-keep f test [] = refl
-map-keep f test (x ∷ xs) =
-    by-bool
-    (test (f x))
-    (λ y. rw y (ap (f x ∷_) (map-keep f test xs)))
-    (λ z. rw z (map-keep f test xs))
-
 -- The first element, and what holds between it and the others.
 pub first-mem {ℓ} : {A : Type ℓ} (l : List A) (d : A) {a : A} → List·Memᴰ a l → List·Memᴰ (getD l 0 d) l
 first-mem [] d m = absurd (List·Memᴰ·not-nil m)
@@ -257,31 +237,22 @@ zeros zero i = refl
 zeros (suc n) zero = refl
 zeros (suc n) (suc i) = zeros n i
 
--- The front of a row of single elements.
-pub singles-front : (f : ℕ → ℕ) (m n : ℕ) → m ≤ n → take m (gather n λ i. f i ∷ []) ≡ gather m λ i. f i ∷ []
-singles-front f m n le =
-    let long : length (take m (gather n λ i. f i ∷ [])) ≡ m =
-    length-take m (gather n λ i. f i ∷ []) ∙ omega (arith, singles-length f n) in
-    ext-getD
-    0
-    (take m (gather n λ i. f i ∷ []))
-    (gather m λ i. f i ∷ [])
-    (long ∙ sym (singles-length f m))
-    (λ i l.
-    getD-take m (gather n λ i. f i ∷ []) i 0 (omega arith)
-    ∙ singles-at f n i 0 (omega arith)
-    ∙ sym (singles-at f m i 0 (omega arith)))
+pub take-replicate {ℓ} : {A : Type ℓ} (a : A) (n m : ℕ) → n ≤ m → take n (replicate m a) ≡ replicate n a
+take-replicate a zero m h = refl
+take-replicate a (suc n) zero h = absurd (not-suc-le-zero h)
+take-replicate a (suc n) (suc m) h = ap (a ∷_) (take-replicate a n m (omega arith))
 
 -- One of the rows, by the test.
 
-same-row : (a b : List ℕ) → sameRow a b ≡ true → a ≡ b
+pub same-row : (a b : List ℕ) → sameRow a b ≡ true → a ≡ b
 same-row [] [] e = refl
 same-row [] (y ∷ ys) e = true-not-false e refl
 same-row (x ∷ xs) [] e = true-not-false e refl
 same-row (x ∷ xs) (y ∷ ys) e =
-    ap₂ _∷_ (eqb-true x y (and-left (eqb x y) (sameRow xs ys) e)) (same-row xs ys (and-right (eqb x y) (sameRow xs ys) e))
+    ap₂ _∷_ (eqb-true x y (and-left (eqb x y) (sameRow xs ys) e))
+    (same-row xs ys (and-right (eqb x y) (sameRow xs ys) e))
 
-row-same : (a : List ℕ) → sameRow a a ≡ true
+pub row-same : (a : List ℕ) → sameRow a a ≡ true
 row-same [] = refl
 row-same (x ∷ xs) = both (eq-eqb x x refl) (row-same xs)
 

@@ -4,50 +4,19 @@
 use Prim.Native.Nat.{ℕ, zero, suc, _+_, _≤_, _<_}
 use native.Mathlib.Decide.{ℕ-discrete, decLe}
 use native.Mathlib.Omega.{arith}
-use mathlib.Core.Bool.{Bool, true, not, _&&_}
-use mathlib.Core.Path.{_≡_, ap, subst}
+use mathlib.Core.Bool.{Bool, true}
+use mathlib.Core.Path.{_≡_, subst}
 use mathlib.Core.Logic.{_≢_, _⊎_, inl, inr, ⊎-elim, by-cases}
-use lib.Dec.{eqb}
-use borrow.Author.Tests.{eqb-true, eq-eqb, not-true}
-use Rattle.base.specs.Below.{everyBelow}
-use Rattle.base.proofs.Bools.{by-bool, true-not-false, both, and-left, and-right}
-use Rattle.base.proofs.Below.{every-at, every-fails}
 use Rattle.schedule.specs.Project.{Project}
 use Rattle.schedule.specs.Schedule.{Starts, endOf, load}
 use Rattle.schedule.proofs.Load.{among, load-mono}
+use Rattle.schedule.proofs.Growth.{found, later-on}
 use Rattle.branching.proofs.Room.{Frozen, Room, Soonest}
 
 module _ (p : Project) (F : ℕ → Bool) (S : Starts) where
   -- i has the units that it needs on tick u.
   abbrev pub FitsOn : ℕ → ℕ → Type 0
   FitsOn i u = (r : ℕ) → r < p .resources → load (among p F) S u r + p .units i r ≤ p .capacity r
-
-  -- A frozen one with x for its start or its end, or none.
-  found : (f : ℕ → ℕ) (x : ℕ) → ((k : ℕ) × Frozen p F k × (f k ≡ x)) ⊎ ((k : ℕ) → Frozen p F k → f k ≢ x)
-  found f x =
-      let test : ℕ → Bool = λ k. not (F k && eqb (f k) x) in
-      by-bool (everyBelow (p .size) test)
-      (λ y.
-      inr (λ k h e.
-      true-not-false (both (h .there) (eq-eqb (f k) x e))
-      (not-true (F k && eqb (f k) x) (every-at (p .size) test y k (h .below)))))
-      (λ z.
-      let (k, b, fails) = every-fails (p .size) test z in
-      let y : (F k && eqb (f k) x) ≡ true =
-      by-bool (F k && eqb (f k) x) (λ h. h) (λ n. true-not-false (ap not n) fails) in
-      inl (
-        k,
-        record { below = b; there = and-left (F k) (eqb (f k) x) y },
-        eqb-true (f k) x (and-right (F k) (eqb (f k) x) y),
-      ))
-
-  -- Between two frozen starts no load grows.
-  later-on : (v r : ℕ) → ((k : ℕ) → Frozen p F k → S k ≢ suc v) → load (among p F) S (suc v) r ≤ load (among p F) S v r
-  later-on v r none =
-      load-mono p F F S S (suc v) v r
-      (λ k b w y runs.
-      let ne : S k ≢ suc v = none k (record { below = b; there = y }) in
-      (y, record { begins = omega (arith, runs .begins, ne); ends = omega (arith, runs .ends) }))
 
   pub fits-from : (i t : ℕ) → FitsOn i t
       → ((k : ℕ) → Frozen p F k → t < S k → S k < t + p .duration i → FitsOn i (S k))
@@ -59,8 +28,9 @@ module _ (p : Project) (F : ℕ → Bool) (S : Starts) where
       ⊎-elim
       (λ (k, h, e). subst (FitsOn i) e (starts k h (omega (arith, e, g)) (omega (arith, e, to))))
       (λ none r l.
-      omega (arith, later-on v r none, fits-from i t first starts v (omega (arith, g)) (omega (arith, to)) r l))
-      (found S (suc v)))
+      omega
+      (arith, later-on (among p F) S v r none, fits-from i t first starts v (omega (arith, g)) (omega (arith, to)) r l))
+      (found (among p F) S (suc v)))
 
   -- b is when i is ready: its earliest fit is then, or when a frozen one ends.
   pub soonest-at : (i b e : ℕ) → 1 ≤ p .duration i → p .floor ≤ b
@@ -83,7 +53,7 @@ module _ (p : Project) (F : ℕ → Bool) (S : Starts) where
         fits = λ u r l x y. earlier none u r l x y;
       } in
       omega (arith, soon .least v before)))
-      (found (endOf p S) (suc v))))
+      (found (among p F) (endOf p S) (suc v))))
     where
       earlier : ((k : ℕ) → Frozen p F k → endOf p S k ≢ suc v) → (u r : ℕ) → r < p .resources → v ≤ u
           → u < v + p .duration i

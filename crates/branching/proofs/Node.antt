@@ -12,19 +12,13 @@ use Rattle.schedule.specs.Schedule.{Starts, endOf, load, latestEnd, moved, feas
 use Rattle.schedule.specs.Sessions.{wait}
 use Rattle.base.proofs.Bools.{by-bool, true-not-false, both, and-left, and-right, cond-true}
 use Rattle.base.proofs.Below.{max-term}
-use Rattle.schedule.proofs.Load.{Has, Sound, among, load-mono, load-mono-but, load-after, end-le, moved-same}
-use Rattle.schedule.proofs.Load.{moved-other}
+use Rattle.schedule.proofs.Load.{Has, among, load-mono, load-mono-but, load-after, end-le, moved-same, moved-other}
 use Rattle.schedule.proofs.Reflect.{Feasible, Active, feasible-is, feasible-of}
 use Rattle.schedule.proofs.Agree.{Agree, Feasible-agree, agree-moved, part-has, part-feasible, part-active}
 use Rattle.branching.proofs.First.{First, first-of}
 use Rattle.branching.proofs.Room.{Frozen, Open, Room, Soonest, room-of, frozen-other, adding, adding-new}
 use Rattle.branching.proofs.Room.{adding-other, adding-old, by-added}
-
-pub record Node (p : Project) (F : ℕ → Bool) (S : Starts) : Type 0 where
-  pub inside : (i : ℕ) → i < p .size → F i ≡ true → p .present i ≡ true
-  pub closed : (i j : ℕ) → Has p i → Frozen p F j → p .precedes i j ≡ true → F i ≡ true
-  pub begun : (i : ℕ) → Has p i → p .free i ≡ false → F i ≡ true
-  pub is-active : Active (among p F) S
+pub use Rattle.branching.specs.Node.{Node}
 
 -- The root: what has begun is frozen.
 
@@ -48,32 +42,6 @@ root p S earlier f =
       begun = λ i h z. both (h .there) (ap not z);
       is-active = record { is-feasible = f; least = λ j g y t l m. true-not-false y (begun-fixed p j g) };
     }
-
--- The tests of the root: they hold where there is a feasible schedule, provided that none has begun after the floor.
-pub begun-feasible : (p : Project) (T : Starts) → Feasible p T → Feasible (among p (begunOf p)) (p .begun)
-begun-feasible p T f =
-    Feasible-agree (among p (begunOf p)) T (p .begun)
-    (λ i g. f .as-begun i (begun-has p i g) (begun-fixed p i g))
-    (part-feasible p (begunOf p) (p .present) T (λ i g. begun-has p i g .there) f)
-
-pub begun-closed : (p : Project) (T : Starts) → Sound p → Feasible p T
-    → ((i : ℕ) → Has p i → p .free i ≡ false → p .begun i ≤ p .floor)
-    → (i j : ℕ) → Has p i → Has p j → p .precedes i j ≡ true → p .free j ≡ false → p .free i ≡ false
-begun-closed p T sound f early i j hi hj o z =
-    by-bool
-    (p .free i)
-    (λ y.
-    absurd (
-    omega (
-      arith,
-      f .from-floor i hi y,
-      f .as-begun j hj z,
-      early j hj z,
-      f .ordered i j hi hj o,
-      sound .lasts i hi,
-    )
-    ))
-    (λ n. n)
 
 -- A leaf: every activity is frozen.
 pub leaf-active : (p : Project) (F : ℕ → Bool) (S : Starts) → Node p F S → ((i : ℕ) → Has p i → F i ≡ true)

@@ -8,7 +8,7 @@ use Rattle.schedule.specs.Project.{Project}
 use Rattle.base.proofs.Bools.{by-bool, both, and-left, and-right, cond-true, cond-false}
 use Rattle.base.proofs.Below.{cond-mono, sum-le-but}
 use Rattle.schedule.proofs.Load.{Has}
-use Rattle.branching.proofs.Partial.{Ranked}
+use Rattle.branching.proofs.Room.{Ranked}
 
 abbrev pub before : Project → ℕ → ℕ
 before p j = sumBelow (p .size) λ k. cond (p .present k && p .precedes k j) 1 0

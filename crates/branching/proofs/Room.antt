@@ -3,40 +3,20 @@
 use Prim.Native.Nat.{ℕ, _+_, _≤_, _<_}
 use native.Mathlib.Decide.{ℕ-discrete}
 use native.Mathlib.Omega.{arith}
-use mathlib.Core.Bool.{Bool, true, false, not, _&&_, _||_}
+use mathlib.Core.Bool.{Bool, true, false, not, _&&_}
 use mathlib.Core.Path.{_≡_, refl, sym, ap, _∙_}
 use mathlib.Core.Logic.{_≢_, _⊎_, inl, inr, ⊎-elim, by-cases}
-use lib.Dec.{eqb}
 use borrow.Author.Tests.{eq-eqb, ne-eqb, not-true}
 use Rattle.base.specs.Below.{everyBelow, _implies_}
 use Rattle.schedule.specs.Project.{Project}
-use Rattle.schedule.specs.Schedule.{Starts, endOf, load}
+use Rattle.schedule.specs.Schedule.{Starts, load}
 use Rattle.base.proofs.Bools.{by-bool, true-not-false, both, and-left, and-right}
 use Rattle.base.proofs.Below.{implies-elim, implies-fails, every-at, every-fails}
 use Rattle.schedule.proofs.Load.{Has, among, load-with}
 use Rattle.schedule.proofs.Reflect.{Feasible}
 use Rattle.schedule.proofs.Agree.{Agree}
 use Rattle.branching.proofs.First.{First, first-of}
-
-abbrev pub Frozen : Project → (ℕ → Bool) → ℕ → Type 0
-Frozen p F i = Has (among p F) i
-
--- Not frozen, and all that precedes it is.
-pub record Open (p : Project) (F : ℕ → Bool) (i : ℕ) : Type 0 where
-  pub has : Has p i
-  pub waits : F i ≡ false
-  pub freed : (k : ℕ) → Has p k → p .precedes k i ≡ true → F k ≡ true
-
--- i may start at t: it is ready, and its units are left while it would run.
-pub record Room (p : Project) (F : ℕ → Bool) (S : Starts) (i t : ℕ) : Type 0 where
-  pub from-floor : p .floor ≤ t
-  pub ready : (k : ℕ) → Frozen p F k → p .precedes k i ≡ true → endOf p S k + p .gap k i ≤ t
-  pub fits : (u r : ℕ) → r < p .resources → t ≤ u → u < t + p .duration i
-      → load (among p F) S u r + p .units i r ≤ p .capacity r
-
-pub record Soonest (p : Project) (F : ℕ → Bool) (S : Starts) (i e : ℕ) : Type 0 where
-  pub room : Room p F S i e
-  pub least : (t : ℕ) → Room p F S i t → e ≤ t
+pub use Rattle.branching.specs.Node.{Frozen, Open, Room, Soonest, adding}
 
 -- A feasible schedule of more activities starts each where it has room.
 pub room-of : (p : Project) (F G : ℕ → Bool) (S T : Starts) → Feasible (among p G) T → Agree (among p F) S T
@@ -60,10 +40,6 @@ room-of p F G S T f a w i g z y =
 
 pub frozen-other : (p : Project) (F : ℕ → Bool) (i j : ℕ) → Frozen p F i → F j ≡ false → i ≢ j
 frozen-other p F i j f z q = true-not-false (f .there) (ap F q ∙ z)
-
--- The set with j added.
-abbrev pub adding : (ℕ → Bool) → ℕ → ℕ → Bool
-adding F j i = eqb i j || F i
 
 pub adding-new : (F : ℕ → Bool) (j : ℕ) → adding F j j ≡ true
 adding-new F j = rw (eq-eqb j j refl)

@@ -6,7 +6,7 @@ use native.Mathlib.Omega.{arith}
 use mathlib.Core.Bool.{Bool, true, false, not, _&&_, _||_}
 use mathlib.Core.Path.{_≡_, refl, sym, ap, _∙_}
 use mathlib.Core.Logic.{∥∥₁-map, by-cases}
-use mathlib.Core.List.{List, [], _∷_, List·Memᴰ, List·Memᴰ·head, List·Memᴰ·eq-of-singleton, List·Nodup, nodup-nil}
+use mathlib.Core.List.{List, [], _∷_, List·Memᴰ, List·Memᴰ·head, List·Memᴰ·eq-of-singleton, nodup-nil}
 use mathlib.Core.List.{Perm, perm-ext-iff-of-nodup}
 use mathlib.Mathlib.Data.List.Nodup as nodup
 use lib.Dec.{ltb, eqb}
@@ -29,12 +29,7 @@ use Rattle.branching.proofs.Node.{Node, begunOf, leaf-active}
 use Rattle.branching.proofs.Under.{Components, Ahead, Under, LeastEnd, Choice, root-under, child-under, once}
 use Rattle.branching.proofs.Under.{agree-child, child-agree, ahead-is, ahead-of}
 use Rattle.branching.proofs.Chosen.{chosen, alone-starts}
-
-pub record Rows (p : Project) (mark : ℕ) (kind : Starts → Type 0) (rows : List (List ℕ)) : Type 0 where
-  pub session : (row : List ℕ) → List·Memᴰ row rows → SessionRow p mark row
-  pub is-kind : (row : List ℕ) → List·Memᴰ row rows → kind (startsOf row)
-  pub reached : (row : List ℕ) → SessionRow p mark row → kind (startsOf row) → List·Memᴰ row rows
-  pub apart : List·Nodup rows
+pub use Rattle.branching.specs.Rows.{Rows}
 
 -- Two kinds that are one for active schedules.
 pub rows-same : (p : Project) (mark : ℕ) (kind kind′ : Starts → Type 0) (rows : List (List ℕ))
@@ -72,11 +67,6 @@ rows-perm p mark kind rows sound every l =
           let s : SessionRow p mark row = session-is p mark row k in
           l .reached row s (every (startsOf row) (s .is-active))),
     ))
-
-pub no-sessions : (p : Project) (mark : ℕ) → ((T : Starts) → Feasible p T → ⊥) → sessions p mark ≡ []
-no-sessions p mark none =
-    by-list (sessions p mark) (λ e. e)
-    (λ row m. absurd (none (startsOf row) (session-is p mark row m .is-active .is-feasible)))
 
 -- Under a node that has all frozen.
 pub leaf-rows : (p : Project) (comp : ℕ → ℕ) (mark : ℕ) (F : ℕ → Bool) (S : Starts) → Node p F S

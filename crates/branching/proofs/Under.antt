@@ -11,24 +11,14 @@ use borrow.Author.Tests.{eqb-true, eq-eqb, ltb-true, lt-ltb}
 use Rattle.schedule.specs.Project.{Project}
 use Rattle.schedule.specs.Schedule.{Starts, moved}
 use Rattle.base.proofs.Bools.{by-bool, true-not-false, both, and-left, and-right}
-use Rattle.schedule.proofs.Load.{Has, among, moved-same, moved-other}
+use Rattle.schedule.proofs.Load.{among, moved-same, moved-other}
 use Rattle.schedule.proofs.Reflect.{Feasible}
 use Rattle.schedule.proofs.Agree.{Agree}
 use Rattle.branching.proofs.Room.{Frozen, Open, frozen-other, adding, adding-new, adding-other, adding-old}
 use Rattle.branching.proofs.Room.{by-added}
 use Rattle.branching.proofs.Node.{Node, begunOf, begun-fixed, begun-has, open-free}
+pub use Rattle.branching.specs.Under.{Components, Ahead, Under}
 
--- Two activities with a common resource are of one component.
-abbrev pub Components : Project → (ℕ → ℕ) → Type 0
-Components p comp =
-    (i k r : ℕ) → Has p i → Has p k → r < p .resources → 0 < p .units i r → 0 < p .units k r → comp i ≡ comp k
-
--- a before b, and where they are equal i before j.
-pub record Ahead (a i b j : ℕ) : Type 0 where
-  pub low : a ≤ b
-  pub tie : a ≡ b → i < j
-
--- Its test.
 pub ahead-is : (a i b j : ℕ) → (ltb a b || (eqb a b && ltb i j)) ≡ true → Ahead a i b j
 ahead-is a i b j y =
     by-bool (ltb a b)
@@ -46,11 +36,6 @@ ahead-of a i b j h =
     (λ e.
     ap (λ (x : Bool). ltb a b || x) (both (eq-eqb a b e) (lt-ltb i j (h .tie e))) ∙ or-true (ltb a b))
     (λ ne. ap (λ (x : Bool). x || (eqb a b && ltb i j)) (lt-ltb a b (omega (arith, h .low, ne))))
-
-pub record Under (p : Project) (comp : ℕ → ℕ) (F : ℕ → Bool) (S T : Starts) : Type 0 where
-  pub agrees : Agree (among p F) S T
-  pub after : (k i : ℕ) → Frozen p F k → p .free k ≡ true → Has p i → F i ≡ false → comp i ≡ comp k
-      → Ahead (T k) k (T i) i
 
 -- Every feasible schedule is under the root.
 pub root-under : (p : Project) (comp : ℕ → ℕ) (S T : Starts) → Feasible (among p (begunOf p)) S → Feasible p T

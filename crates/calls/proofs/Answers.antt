@@ -15,6 +15,7 @@ use Rattle.plan.specs.Limits.{latestPossible}
 use Rattle.plan.specs.Plan.{Plan, planOf}
 use Rattle.plan.specs.declared.Refusal.the-variants.{OverCap, AreaTooShort}
 use Rattle.term.specs.Term.{Term}
+use Rattle.term.specs.Variants.{variantCount}
 use Rattle.timetable.specs.Mark.{noStarts}
 use Rattle.tally.specs.Seen.{kept, noTally}
 use Rattle.tally.specs.declared.Tally.{Tally}
@@ -31,35 +32,22 @@ use Rattle.answers.specs.declared.BestAnswer.the-variants.{Found}
 use Rattle.answers.specs.declared.BestAnswer.the-variants as bests
 use Rattle.answers.specs.declared.CountAnswer.the-variants as counts
 use Rattle.answers.specs.declared.ListAnswer.the-variants as lists
-use Rattle.plan_exact.proofs.Variant.{chosen}
-use Rattle.variant.proofs.Tables.{tables-hold}
-use Rattle.plan_exact.proofs.Union.{HeldEach}
-use Rattle.plan_exact.proofs.Rows.{allRows}
-use Rattle.sweep.specs.Swept.{tablesAt, swept}
-use Rattle.calls.proofs.Swept.{allowed, too-many, all-rows, placed-rows, kept-best}
+use Rattle.sweep.specs.Swept.{Swept}
+use Rattle.calls.proofs.Swept.{allowed, too-many, all-rows, kept-best}
 
 module _ (c : Campaign) (t : Term) (holds : HoldsPlan c t) (cap : ℕ) where
   abbrev p : Plan
   p = planOf (c .tables)
 
-  held : HeldEach p t (tablesAt c t)
-  held v l = tables-hold p t v (chosen p t v (holds .valid) l)
-
   -- A sweep's tally, whatever area it was lent.
-  module _ (end : ℕ) (area : List ℕ) (r : Tally) (is : r ≡ swept c t cap (kept (noTally end) area) .tally) where
-    count-is : r .count ≡ swept c t cap (kept (noTally end) area) .tally .count
-    count-is = ap (λ (x : Tally). x .count) is
-
+  module _ (end : ℕ) (area : List ℕ) (r : Tally)
+      (is : (left : List ℕ) × Swept c t cap (variantCount t) (kept (noTally end) area) (kept r left)) where
     -- The count tells whether the cap allows the pairs, and is their number then.
     pairs-allowed : r .count ≤ cap → (pairCount p t ≡ r .count) × (leb (pairCount p t) cap ≡ true)
-    pairs-allowed l =
-        let h =
-        allowed p t (holds .valid) (tablesAt c t) held cap (kept (noTally end) area) refl (omega (arith, count-is)) in
-        (h .0 ∙ sym count-is, h .1)
+    pairs-allowed = allowed c t holds cap (kept (noTally end) area) (kept r (is .0)) refl (is .1)
 
     pairs-refused : cap < r .count → leb (pairCount p t) cap ≡ false
-    pairs-refused l =
-        too-many p t (holds .valid) (tablesAt c t) held cap (kept (noTally end) area) refl (omega (arith, count-is))
+    pairs-refused = too-many c t holds cap (kept (noTally end) area) (kept r (is .0)) refl (is .1)
 
     pub counts-allowed : r .count ≤ cap → counts.Counted (r .count) ≡ countBy (accepts p t) cap
     counts-allowed l = let h = pairs-allowed l in rw (h .1) (ap counts.Counted (sym (h .0)))
@@ -87,30 +75,22 @@ module _ (c : Campaign) (t : Term) (holds : HoldsPlan c t) (cap : ℕ) where
           (ap (λ (n : ℕ). record { answer = lists.Refused (AreaTooShort n); area = before }) (needed-is l))
 
       -- The second sweep, with the area that is lent, and its rows sorted.
-      pub lists-rows : r .count ≤ cap → r .count * (c .tables .acts + 1) ≤ length before → (found after : List ℕ)
-          → found ≡ swept c t cap (kept (noTally end) before) .area
+      pub lists-rows : r .count ≤ cap → r .count * (c .tables .acts + 1) ≤ length before → (last : Tally)
+          → (found after : List ℕ)
+          → Swept c t cap (variantCount t) (kept (noTally end) before) (kept last found)
           → after
           ≡ cellsOf (sorted (rowsIn (c .tables .acts + 1) (r .count) found))
           ++ drop (r .count * (c .tables .acts + 1)) found
           → record { answer = lists.Listed (r .count); area = after } ≡ listBy (accepts p t) cap before
-      lists-rows l room found after swept-is sort =
+      lists-rows l room last found after swept sort =
           let number : r .count ≡ pairCount p t = sym (pairs-allowed l .0) in
-          let rest : List ℕ = drop (cellsNeeded p t) before in
-          let filled : found ≡ cellsOf (allRows p t (tablesAt c t)) ++ rest =
-          swept-is
-          ∙ all-rows p t (holds .valid) (tablesAt c t) held cap (kept (noTally end) before) refl (omega arith)
-          (omega (arith, needed-is l))
-          in
-          let done : after ≡ cellsOf (pairs p t) ++ rest =
+          let done : after ≡ cellsOf (pairs p t) ++ drop (cellsNeeded p t) before =
           sort
           ∙ ap₂ (λ (rows : List (List ℕ)) (n : ℕ). cellsOf (sorted rows) ++ drop n found)
           (ap₂ (λ (w n : ℕ). rowsIn w n found) width-is number)
           (needed-is l)
-          ∙ ap
-          (λ (cells : List ℕ).
-          cellsOf (sorted (rowsIn (suc (length (p .activities))) (pairCount p t) cells)) ++ drop (cellsNeeded p t) cells)
-          filled
-          ∙ placed-rows p t (holds .valid) (tablesAt c t) held rest
+          ∙ all-rows c t holds cap (kept (noTally end) before) (kept last found) refl swept (omega arith)
+          (omega (arith, needed-is l))
           in
           rw (pairs-allowed l .1, le-leb (cellsNeeded p t) (length before) (omega (arith, needed-is l)))
           (λ i. record { answer = lists.Listed (number i); area = done i })
@@ -122,13 +102,12 @@ module _ (c : Campaign) (t : Term) (holds : HoldsPlan c t) (cap : ℕ) where
     best-refused l b answer none =
         rw (pairs-refused l) (λ i. record { answer = answer i; timetable = record { starts = none i } })
 
-    pub best-found : latestPossible < end → r .count ≤ cap → (b : Best) → b .answer ≡ Found (r .«best_variant») (r .«best_end») (r .count)
+    pub best-found : latestPossible < end → r .count ≤ cap → (b : Best)
+        → b .answer ≡ Found (r .«best_variant») (r .«best_end») (r .count)
         → b .timetable .starts ≡ r .best .starts → b ≡ bestBy (accepts p t) cap
     best-found late l b answer timetable =
         let few : pairCount p t ≤ cap = omega (arith, pairs-allowed l .0) in
         rw (pairs-allowed l .1)
-        (kept-best p t (holds .valid) (tablesAt c t) held cap (kept (noTally end) area) refl late few b
-        (answer
-        ∙ ap (Found (r .«best_variant») (r .«best_end»)) (sym (pairs-allowed l .0))
-        ∙ ap (λ (x : Tally). Found (x .«best_variant») (x .«best_end») (pairCount p t)) is)
-        (timetable ∙ ap (λ (x : Tally). x .best .starts) is))
+        (kept-best c t holds cap (kept (noTally end) area) (kept r (is .0)) refl (is .1) late few b
+        (answer ∙ ap (Found (r .«best_variant») (r .«best_end»)) (sym (pairs-allowed l .0)))
+        timetable)

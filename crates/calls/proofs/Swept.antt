@@ -1,121 +1,179 @@
--- What a sweep over the variants of a valid plan has kept: the number of its pairs, their rows in some order, and the
--- first shortest of them.
-use Prim.Native.Nat.{ℕ, suc, _*_, _≤_, _<_}
+-- What a sweep over the variants of an accepted plan has kept: the number of its pairs, their rows in some order, and
+-- the first shortest of them.
+use Prim.Native.Nat.{ℕ, suc, _-_, _*_, _≤_, _<_}
+use native.Mathlib.Decide.{ℕ-discrete}
 use native.Mathlib.Omega.{arith}
 use mathlib.Core.Bool.{true, false}
 use mathlib.Core.Path.{_≡_, refl, sym, ap, ap₂, subst, _∙_}
-use mathlib.Core.List.{List, _∷_, _++_, List·Memᴰ, Memᴰ·of-map, head-eq-of-cons-eq, tail-eq-of-cons-eq}
+use mathlib.Core.List.{List, _∷_, _++_, map, List·Memᴰ, List-discrete, head-eq-of-cons-eq, tail-eq-of-cons-eq}
+use mathlib.Core.List.{Perm, Perm·map, Perm·mem-iff}
 use lib.Dec.{leb}
-use lib.ListN.{length, drop, length-map}
+use lib.ListN.{length, drop, replicate, length-map}
 use lib.Seq.{drop-at}
 use borrow.Author.Tests.{le-leb, lt-leb, leb-true}
 use Rattle.plan.specs.Limits.{latestPossible}
-use Rattle.plan.specs.Plan.{Plan}
+use Rattle.plan.specs.Plan.{Plan, planOf}
 use Rattle.term.specs.Term.{Term}
 use Rattle.term.specs.Variants.{variantCount}
 use Rattle.base.specs.Lists.{cellsOf}
 use Rattle.base.specs.Order.{NotAfter, sorted}
-use Rattle.scan.specs.Model.{starts, problemOf, lastEnd}
-use Rattle.scan.specs.Union.{newOf}
-use Rattle.scan.proofs.Starts.{starts-length}
-use Rattle.tally.specs.Seen.{Kept, rankKept}
+use Rattle.base.proofs.Lists.{mem-found, keep-is, keep-mem, gather-perm, cells-length}
+use Rattle.timetable.specs.Mark.{mark, places}
+use Rattle.schedule.specs.Schedule.{latestEnd}
+use Rattle.schedule.specs.Sessions.{startsOf}
+use Rattle.tally.specs.Seen.{Kept, timetableOf, rankKept}
 use Rattle.tally.specs.Entries.{Entry, entryOf, entriesBelow, run}
 use Rattle.tally.proofs.Entries.{entry-is, entry-in}
 use Rattle.tally.proofs.Count.{count-within, count-tells}
 use Rattle.tally.proofs.Best.{rankEntry, FirstFound, best}
-use Rattle.tally.proofs.Area.{row, rows, rows-below, area-is}
-use Rattle.variant.specs.Pairs.{pairs, pairCount}
-use Rattle.term.specs.Valid.{Valid}
+use Rattle.tally.proofs.Area.{line, lines, lines-below, area-is}
+use Rattle.variant.specs.Pairs.{sessionsOf, isNew, pairs, pairCount}
+use Rattle.judge.specs.Campaign.{HoldsPlan}
+use Rattle.judge.specs.declared.Campaign.{Campaign}
+use Rattle.judge.proofs.Ranges.{acts-are}
 use Rattle.answers.specs.Listed.{cellsNeeded}
 use Rattle.answers.specs.Shortest.{firstShortest, bestRow}
 use Rattle.answers.specs.declared.Best.{Best}
 use Rattle.answers.specs.declared.BestAnswer.the-variants.{Found}
-use Rattle.base.proofs.Lists.{gather-is, cells-length}
 use Rattle.plan_exact.proofs.Variant.{chosen}
 use Rattle.plan_exact.proofs.Found.{variant-latest}
-use Rattle.plan_exact.proofs.Union.{HeldEach}
-use Rattle.plan_exact.proofs.Rows.{rowsOf, allRows, rows-sorted, rows-count, pairs-some}
-use Rattle.plan_exact.proofs.Answers.{ranked, new-found, earliest-best}
+use Rattle.plan_exact.proofs.Pairs.{Pair, row-pair}
+use Rattle.plan_exact.proofs.Rows.{rows-sorted, rows-count, pairs-some}
+use Rattle.plan_exact.proofs.Answers.{ranked, session-long, earliest-best}
 use Rattle.sorting.specs.Rows.{rowsIn}
 use Rattle.sorting.proofs.Rows.{rows-in-cells}
-use Rattle.variant.specs.declared.Variant.{Variant}
+use Rattle.sweep.specs.Swept.{projectAt, newAt, Swept}
 
-module _ (p : Plan) (t : Term) (valid : Valid p t) (x : ℕ → Variant) (held : HeldEach p t x) where
+module _ (c : Campaign) (t : Term) (holds : HoldsPlan c t) where
+  abbrev p : Plan
+  p = planOf (c .tables)
+
   abbrev acts : ℕ
-  acts = length (p .activities)
+  acts = c .tables .acts
 
-  abbrev all : List Entry
-  all = entriesBelow x (variantCount t)
+  same-acts : length (p .activities) ≡ acts
+  same-acts = acts-are (c .tables) (holds .ranged)
 
-  rows-are : rows acts all ≡ allRows p t x
-  rows-are = rows-below x acts (variantCount t)
+  -- The rows of a sweep: the pairs in some order.
+  module _ (x : ℕ → List (List ℕ)) (each : (v : ℕ) → v < variantCount t → Perm (x v) (newAt c t v)) where
+    abbrev all : List Entry
+    all = entriesBelow (projectAt c t) x (variantCount t)
 
-  pub entries-count : length all ≡ pairCount p t
-  entries-count =
-      sym (length-map all (row acts)) ∙ ap length rows-are ∙ rows-count p t valid x held
+    lines-perm : Perm (lines all) (pairs p t)
+    unfolding pairs
+    lines-perm =
+        subst (λ (l : List (List ℕ)). Perm l (pairs p t)) (sym (lines-below (projectAt c t) x (variantCount t)))
+        (gather-perm (variantCount t) (λ v. map (v ∷_) (x v)) (λ v. map (v ∷_) (newAt c t v))
+        (λ v l. Perm·map (v ∷_) (each v l)))
 
-  -- The rows in some order, sorted where they lie, are the pairs.
-  row-wide : (r : List ℕ) → List·Memᴰ r (allRows p t x) → length r ≡ suc acts
-  row-wide r m =
-      let (v, l, n) = gather-is (variantCount t) (rowsOf acts x) m in
-      let (ends, k, e) = Memᴰ·of-map (λ ends. v ∷ starts (problemOf (x v)) acts ends) (newOf x v) n in
-      sym (ap length e) ∙ ap suc (starts-length (problemOf (x v)) ends acts)
+    entries-count : length all ≡ pairCount p t
+    entries-count = sym (length-map all line) ∙ rows-count p t (lines all) lines-perm
 
-  pub placed-rows : (rest : List ℕ)
-      → cellsOf (sorted (rowsIn (suc acts) (pairCount p t) (cellsOf (allRows p t x) ++ rest)))
-      ++ drop (cellsNeeded p t) (cellsOf (allRows p t x) ++ rest)
-      ≡ cellsOf (pairs p t) ++ rest
-  placed-rows rest =
-      let cells : List ℕ = cellsOf (allRows p t x) in
-      let count : length (allRows p t x) ≡ pairCount p t = rows-count p t valid x held in
-      ap₂ _++_
-      (ap cellsOf
-      (ap sorted
-      (ap (λ (n : ℕ). rowsIn (suc acts) n (cells ++ rest)) (sym count)
-      ∙ rows-in-cells (suc acts) (allRows p t x) rest row-wide)
-      ∙ rows-sorted p t valid x held))
-      (drop-at cells rest (cellsNeeded p t)
-      (cells-length (suc acts) (allRows p t x) row-wide ∙ ap (_* suc acts) count))
+    row-pair-of : (v : ℕ) → v < variantCount t → (row : List ℕ) → List·Memᴰ row (x v) → Pair p t v row
+    row-pair-of v l row m =
+        let found =
+        mem-found (List-discrete ℕ-discrete) row (newAt c t v) (Perm·mem-iff (each v l) .0 ∣ m ∣₁) in
+        let (session, new) = keep-is (isNew p t v) (sessionsOf p t v) found in
+        record { below = l; session = session; new = new }
+
+    pair-row-of : (v : ℕ) (row : List ℕ) → Pair p t v row → List·Memᴰ row (x v)
+    pair-row-of v row pair =
+        let kept = keep-mem (isNew p t v) (sessionsOf p t v) (pair .session) (pair .new) in
+        mem-found (List-discrete ℕ-discrete) row (x v) (Perm·mem-iff (each v (pair .below)) .1 ∣ kept ∣₁)
+
+    entry-long : (e : Entry) → List·Memᴰ e all → length (e .row) ≡ acts
+    entry-long e m =
+        let (v, l, row, n, is) = entry-is (projectAt c t) x (variantCount t) e m in
+        sym (ap (λ (y : Entry). length (y .row)) is)
+        ∙ session-long p t v row (row-pair-of v l row n .session)
+        ∙ same-acts
+
+    -- Sorted where they lie, they are the pairs.
+    row-wide : (r : List ℕ) → List·Memᴰ r (lines all) → length r ≡ suc (length (p .activities))
+    row-wide r m =
+        let found = mem-found (List-discrete ℕ-discrete) r (pairs p t) (Perm·mem-iff lines-perm .0 ∣ m ∣₁) in
+        let (v, ss, e, pair) = row-pair p t r found in
+        sym (ap length e) ∙ ap suc (session-long p t v ss (pair .session))
+
+    placed-rows : (rest : List ℕ)
+        → cellsOf (sorted (rowsIn (suc (length (p .activities))) (pairCount p t) (cellsOf (lines all) ++ rest)))
+        ++ drop (cellsNeeded p t) (cellsOf (lines all) ++ rest)
+        ≡ cellsOf (pairs p t) ++ rest
+    placed-rows rest =
+        let wide : ℕ = suc (length (p .activities)) in
+        let cells : List ℕ = cellsOf (lines all) in
+        let count : length (lines all) ≡ pairCount p t = rows-count p t (lines all) lines-perm in
+        ap₂ _++_
+        (ap cellsOf
+        (ap sorted
+        (ap (λ (n : ℕ). rowsIn wide n (cells ++ rest)) (sym count) ∙ rows-in-cells wide (lines all) rest row-wide)
+        ∙ rows-sorted p t (lines all) lines-perm))
+        (drop-at cells rest (cellsNeeded p t) (cells-length wide (lines all) row-wide ∙ ap (_* wide) count))
+
+    rank-is : (v : ℕ) (row : List ℕ) → Pair p t v row → rankEntry (entryOf (projectAt c t v) v row) ≡ ranked p t v row
+    unfolding timetableOf
+    rank-is v row pair =
+        ap (λ (n : ℕ). latestEnd (projectAt c t v) (startsOf row) ∷ v ∷ (row ++ replicate (places - n) mark))
+        (session-long p t v row (pair .session))
 
   -- A sweep that starts with a count of 0; for BEST also with an end that is later than any.
-  module _ (cap : ℕ) (k : Kept) (fresh : k .tally .count ≡ 0) where
-    abbrev after : Kept
-    after = run acts cap k all
+  module _ (cap : ℕ) (k after : Kept) (fresh : k .tally .count ≡ 0) (s : Swept c t cap (variantCount t) k after) where
+    abbrev es : List Entry
+    es = all (s .rows) (s .all)
+
+    number : length es ≡ pairCount p t
+    number = entries-count (s .rows) (s .all)
+
+    count-is : after .tally .count ≡ run acts cap k es .tally .count
+    count-is = ap (λ (x : Kept). x .tally .count) (s .kept)
+
+    tells : leb (after .tally .count) cap ≡ leb (pairCount p t) cap
+    tells =
+        ap (λ (n : ℕ). leb n cap) count-is
+        ∙ count-tells acts cap k es fresh
+        ∙ ap (λ (n : ℕ). leb n cap) number
 
     -- The count tells whether the cap allows the pairs, and is their number then.
     pub allowed : after .tally .count ≤ cap → (pairCount p t ≡ after .tally .count) × (leb (pairCount p t) cap ≡ true)
     allowed l =
-        let tells : leb (after .tally .count) cap ≡ leb (length all) cap = count-tells acts cap k all fresh in
-        let few : length all ≤ cap = leb-true (length all) cap (sym tells ∙ le-leb (after .tally .count) cap l) in (
-          sym (count-within acts cap k all fresh few ∙ entries-count),
-          le-leb (pairCount p t) cap (omega (arith, entries-count)),
-        )
+        let yes : leb (pairCount p t) cap ≡ true = sym tells ∙ le-leb (after .tally .count) cap l in
+        let few : length es ≤ cap = omega (arith, number, leb-true (pairCount p t) cap yes) in
+        (sym (count-is ∙ count-within acts cap k es fresh few ∙ number), yes)
 
     pub too-many : cap < after .tally .count → leb (pairCount p t) cap ≡ false
-    too-many l =
-        let tells : leb (after .tally .count) cap ≡ leb (length all) cap = count-tells acts cap k all fresh in
-        ap (λ (n : ℕ). leb n cap) (sym entries-count) ∙ sym tells ∙ lt-leb (after .tally .count) cap l
+    too-many l = sym tells ∙ lt-leb (after .tally .count) cap l
 
     -- An area that holds the rows is given them; sorted, they are the pairs.
     pub all-rows : pairCount p t ≤ cap → cellsNeeded p t ≤ length (k .area)
-        → after .area ≡ cellsOf (allRows p t x) ++ drop (cellsNeeded p t) (k .area)
+        → cellsOf (sorted (rowsIn (suc (length (p .activities))) (pairCount p t) (after .area)))
+        ++ drop (cellsNeeded p t) (after .area)
+        ≡ cellsOf (pairs p t) ++ drop (cellsNeeded p t) (k .area)
     unfolding cellsOf
     all-rows few room =
-        let wide : length all * suc acts ≡ cellsNeeded p t = ap (_* suc acts) entries-count in
-        area-is acts cap cellsOf refl (λ r rs. refl) k all fresh (omega (arith, entries-count)) (omega arith)
-        ∙ ap₂ (λ (l : List (List ℕ)) (n : ℕ). cellsOf l ++ drop n (k .area)) rows-are wide
+        let wide : length es * suc acts ≡ cellsNeeded p t =
+        ap₂ (λ (n w : ℕ). n * suc w) number (sym same-acts) in
+        let filled : after .area ≡ cellsOf (lines es) ++ drop (cellsNeeded p t) (k .area) =
+        ap (λ (x : Kept). x .area) (s .kept)
+        ∙ area-is acts cap cellsOf refl (λ r rs. refl) k es (entry-long (s .rows) (s .all)) fresh
+        (omega (arith, number)) (omega arith)
+        ∙ ap (λ (n : ℕ). cellsOf (lines es) ++ drop n (k .area)) wide in
+        ap
+        (λ (cells : List ℕ).
+        cellsOf (sorted (rowsIn (suc (length (p .activities))) (pairCount p t) cells)) ++ drop (cellsNeeded p t) cells)
+        filled
+        ∙ placed-rows (s .rows) (s .all) (drop (cellsNeeded p t) (k .area))
 
-    first : latestPossible < k .tally .«best_end» → pairCount p t ≤ cap → FirstFound (after .tally) all
+    first : latestPossible < k .tally .«best_end» → pairCount p t ≤ cap → FirstFound (run acts cap k es .tally) es
     first above few =
-        best acts cap k all
-        (omega (arith, entries-count, pairs-some p t valid))
-        (omega (arith, entries-count))
-        (λ e k.
-        let (v, l, ends, m, is) = entry-is x (variantCount t) e k in
+        best acts cap k es
+        (omega (arith, number, pairs-some p t (holds .valid)))
+        (omega (arith, number))
+        (λ e m.
+        let (v, l, row, n, is) = entry-is (projectAt c t) (s .rows) (variantCount t) e m in
         omega (
           arith,
-          ap (λ (y : Entry). lastEnd (y .ends)) is,
-          variant-latest p t v (chosen p t v valid l) (x v) (held v l) ends (new-found x v ends m),
+          ap (λ (y : Entry). latestEnd (y .project) (startsOf (y .row))) is,
+          variant-latest p t v (chosen p t v (holds .valid) l) row (row-pair-of (s .rows) (s .all) v l row n .session),
         ))
 
     -- The schedule that is kept is what BEST answers.
@@ -124,20 +182,26 @@ module _ (p : Plan) (t : Term) (valid : Valid p t) (x : ℕ → Variant) (held :
         → b .timetable .starts ≡ after .tally .best .starts
         → b ≡ bestRow p t (firstShortest p t)
     kept-best above few b answer timetable =
-        let f : FirstFound (after .tally) all = first above few in
-        let (v, l, ends, m, is) = entry-is x (variantCount t) (f .entry) (f .one-of) in
-        let rank : rankKept (after .tally) ≡ ranked x v ends = f .keeps ∙ ap rankEntry (sym is) in
-        let end : after .tally .«best_end» ≡ lastEnd ends = head-eq-of-cons-eq rank in
-        let number : after .tally .«best_variant» ≡ v = head-eq-of-cons-eq (tail-eq-of-cons-eq rank) in
-        earliest-best p t valid x held v ends
+        let f : FirstFound (run acts cap k es .tally) es = first above few in
+        let (v, l, row, m, is) = entry-is (projectAt c t) (s .rows) (variantCount t) (f .entry) (f .one-of) in
+        let pair : Pair p t v row = row-pair-of (s .rows) (s .all) v l row m in
+        let kept : rankKept (run acts cap k es .tally) ≡ ranked p t v row =
+        f .keeps ∙ ap rankEntry (sym is) ∙ rank-is (s .rows) (s .all) v row pair in
+        let rank : rankKept (after .tally) ≡ ranked p t v row =
+        ap (λ (x : Kept). rankKept (x .tally)) (s .kept) ∙ kept in
+        let end = head-eq-of-cons-eq rank in
+        let variant = head-eq-of-cons-eq (tail-eq-of-cons-eq rank) in
+        earliest-best p t (holds .valid) v row
         (record {
-          below = l;
-          found = m;
+          pair = pair;
           first =
-              λ u other below n.
-              subst (λ (a : List ℕ). NotAfter a (ranked x u other)) rank
-              (f .first (entryOf (problemOf (x u)) u other) (entry-in x (variantCount t) u other below n));
+              λ u other else.
+              let n = pair-row-of (s .rows) (s .all) u other else in
+              subst (NotAfter (ranked p t v row)) (rank-is (s .rows) (s .all) u other else)
+              (subst (λ (a : List ℕ). NotAfter a (rankEntry (entryOf (projectAt c t u) u other))) kept
+              (f .first (entryOf (projectAt c t u) u other)
+              (entry-in (projectAt c t) (s .rows) (variantCount t) u other (else .below) n)));
         })
         b
-        (answer ∙ ap₂ (λ (n s : ℕ). Found n s (pairCount p t)) number end)
+        (answer ∙ ap₂ (λ (n x : ℕ). Found n x (pairCount p t)) variant end)
         (timetable ∙ tail-eq-of-cons-eq (tail-eq-of-cons-eq rank))

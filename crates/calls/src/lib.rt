@@ -1,23 +1,25 @@
 // COUNT, LIST and BEST: each judges the file, then sweeps over all variants of the plan.
 ghost use mathlib.Core.Path.{_≡_};
-ghost use mathlib.Core.List.{[], _∷_};
+ghost use mathlib.Core.List.{List, [], _∷_};
+ghost use Prim.Native.Nat.{ℕ};
 ghost use Rattle.plan.specs.Plan.{planOf};
 ghost use Rattle.term.specs.Term.{Term};
+ghost use Rattle.term.specs.Variants.{variantCount};
 ghost use Rattle.judge.specs.Judge.{accepts};
 ghost use Rattle.judge.specs.Campaign.{HoldsPlan};
 ghost use Rattle.answers.specs.Count.{countBy, countOf};
 ghost use Rattle.answers.specs.Listed.{listBy, listOf};
 ghost use Rattle.answers.specs.Shortest.{bestBy, bestOf};
 ghost use Rattle.tally.specs.Seen.{kept, noTally};
-ghost use Rattle.sweep.specs.Swept.{swept};
+ghost use Rattle.sweep.specs.Swept.{Swept};
 use answers::Best;
 use answers::BestAnswer;
 use answers::CountAnswer;
 use answers::ListAnswer;
-use candidates::NEVER;
 use judge::Campaign;
 use parser::Verdict;
 use plan::Refusal;
+use profile::NEVER;
 use tally::Tally;
 use timetable::Timetable;
 
@@ -28,7 +30,8 @@ const NONE: u32 = 0;
 fn tallied(campaign: Campaign, end: u32, cap: u32) -> Tally
     requires { ⌜ ((t : Term) × HoldsPlan campaign t) ⌝ }
     ensures { λ r.
-        ⌜ ((t : Term) → HoldsPlan campaign t → r ≡ swept campaign t cap (kept (noTally end) (0 ∷ [])) .tally) ⌝ }
+        ⌜ ((t : Term) → HoldsPlan campaign t
+        → (area : List ℕ) × Swept campaign t cap (variantCount t) (kept (noTally end) (0 ∷ [])) (kept r area)) ⌝ }
 {
     let mut cell = [0u32; 1];
     sweep::sweep(campaign, Tally::none(end), cap, &mut cell)
@@ -46,8 +49,8 @@ fn counted(campaign: Campaign, cap: u32) -> CountAnswer
     CountAnswer::Counted(tally.count)
 }
 
-// LIST of an accepted plan: nothing is written before it is known that all rows fit. They are written as they are found,
-// then sorted where they lie.
+// LIST of an accepted plan: nothing is written before it is known that all rows fit. They are written as they are
+// found, then sorted where they lie.
 fn listed(campaign: Campaign, cap: u32, area: &mut [u32]) -> ListAnswer
     requires { ⌜ ((t : Term) × HoldsPlan campaign t) ⌝ }
     ensures { λ r.

@@ -4,40 +4,38 @@ use mathlib.Core.List.{List, [], _∷_, _++_, List·Memᴰ, List·Memᴰ·cases-
 use mathlib.Core.Logic.{⊎-elim}
 use mathlib.Core.Path.{_≡_, refl, sym, subst, _∙_}
 use lib.ListN.{length, drop}
+use Rattle.base.specs.Below.{everyBelow, sumBelow, maxBelow}
 use Rattle.base.specs.Lists.{every, keep, gather, cellsOf}
 use Rattle.base.specs.Order.{sorted}
 use Rattle.base.proofs.Bools.{and-left, and-right}
-use Rattle.format.specs.Parse.{parse, planLines, aLine, tested, theLines, theEnd}
+use Rattle.plan.specs.Limits.{countsForm}
+use Rattle.format.specs.Parse.{parse, planLines, aLine, tested, theLines, theEnd, theCapacities}
+use Rattle.format.specs.Lines
 use Rattle.format.specs.Lines.{matched, digits, isValue, decimal, filled}
+use Rattle.format.specs.Text.{text, capacityLines, actLines, nodeLines}
 use Rattle.term.specs.Term.{termOf, forest, place, size, firsts, others, nodes}
 use Rattle.term.specs.Variants.{activities, member, some-of, twice, repeats, variants, paired, variantCount}
 use Rattle.term.specs.Clash.{clash, share}
 use Rattle.term.specs.Model.{count}
 use Rattle.judge.specs.Judge.{judge}
 use Rattle.read.proofs.Model.{readBy, read-by}
-use Rattle.format.specs.Lines
-use Rattle.format.specs.Text.{text, actLines, nodeLines}
-use Rattle.base.specs.Below.{everyBelow, sumBelow, maxBelow}
-use Rattle.schedule.specs.Schedule.{latestEnd, earliestStart, makespan}
+use Rattle.schedule.specs.Schedule.{load, placed, inOrder, latestEnd, earliestStart, makespan}
 use Rattle.variant.specs.Precedence.{precedes}
 use Rattle.variant.specs.Project.{projectOf}
+use Rattle.variant.specs.Timetable.{isMarked}
 use Rattle.variant.specs.Written.{written, variantPlan, dissolved, joined}
-use Rattle.feasibility.specs.Model.{marksRight, placeRight, placesRight}
 use Rattle.write.specs.Answer.{writeOf}
 use Rattle.write.specs.declared.WriteAnswer.the-variants.{Written}
 use Rattle.answers.specs.Shortest.{noBest}
 use Rattle.answers.specs.declared.BestAnswer.the-variants.{Found}
+use Rattle.scan.specs.Components.{merged, componentBelow}
+use Rattle.scan.specs.Scan.{readyTick, held, hasRoom, combinationsFrom, move, freeze, delete, attach, begun}
 use Rattle.campaigns.specs.Table.{Row, reads, has-variants, writes, checks, counts, lists, spans, finds, stops}
 use Rattle.campaigns.specs.Table.{Holds, table, timetable, sevens, lent}
-use Rattle.sets.specs.Sets
-use Rattle.sets.specs.Sets.{has, meet}
-use Rattle.scan.specs.Model.{leastBelow, ready, earliest, finish, isOpen, keyOf, key, isChoice, freeze, branches}
-use Rattle.scan.specs.Model.{problemOf, leaves, root, scanned, startOf, starts}
-use Rattle.scan.specs.Union.{isSoonest, activeUnder, isNewIn}
-use Rattle.variant.specs.Tables.{setOf, tablesOf}
-use Rattle.campaigns.proofs.Searched.{found, countModel, count-is, listModel, list-is, bestModel, best-is}
-use Rattle.campaigns.proofs.Searched.{spansModel, hasModel, spans-is}
-use Rattle.campaigns.proofs.Checked.{checkModel, check-is}
+use Rattle.campaigns.proofs.Quick.{quickFits, nextEnd, quickFrom, quickFit, shiftBy, completedBy, schedulesBy}
+use Rattle.campaigns.proofs.Searched.{isFirst, found, countModel, count-is, listModel, list-is, bestModel}
+use Rattle.campaigns.proofs.Searched.{best-is, spansModel, hasModel, spans-is}
+use Rattle.campaigns.proofs.Checked.{withinAtStarts, checkModel, check-is}
 use Rattle.campaigns.proofs.Variants.{variantsBy, variants-are}
 use Rattle.campaigns.proofs.Tests.{sameNumber, number-same, sameList, list-same, sameCount, count-same}
 use Rattle.campaigns.proofs.Tests.{sameRead, read-same, sameWrite, write-same, sameCheck, check-same}
@@ -75,13 +73,13 @@ test-holds (finds s cap v span count starts) e = best-is s cap ∙ best-same (be
 test-holds (stops s cap r) e = best-is s cap ∙ best-same (bestModel s cap) _ e
 
 all-pass : every test table ≡ true
-unfolding table readBy variantsBy parse planLines aLine tested theLines theEnd matched digits isValue decimal termOf
-    forest place size firsts others activities member some-of count clash share writeOf checkModel judge twice repeats
-    variants paired variantCount written variantPlan dissolved joined text actLines nodeLines filled Lines.numeral nodes
-    marksRight placesRight placeRight latestEnd earliestStart makespan everyBelow sumBelow
-    maxBelow projectOf precedes countModel listModel spansModel hasModel bestModel found sorted keep cellsOf problemOf
-    tablesOf setOf gather scanned leaves branches root freeze isChoice key keyOf leastBelow isOpen finish earliest ready
-    Sets.size has meet starts startOf isNewIn activeUnder isSoonest
+unfolding table readBy variantsBy parse planLines aLine tested theLines theEnd theCapacities countsForm matched
+    digits isValue decimal termOf forest place size firsts others activities member some-of count clash share writeOf
+    checkModel judge twice repeats variants paired variantCount written variantPlan dissolved joined text capacityLines
+    actLines nodeLines filled Lines.numeral nodes isMarked placed inOrder withinAtStarts load latestEnd earliestStart
+    makespan everyBelow sumBelow maxBelow projectOf precedes countModel listModel spansModel hasModel bestModel found
+    sorted keep cellsOf gather isFirst merged componentBelow readyTick held hasRoom quickFits nextEnd quickFrom quickFit
+    combinationsFrom move freeze shiftBy delete attach begun completedBy schedulesBy
 all-pass = refl
 
 every-of : (xs : List Row) → every test xs ≡ true → (row : Row) → List·Memᴰ row xs → test row ≡ true

@@ -1,29 +1,81 @@
--- CHECK, as the planner tests a timetable: pair by pair, and not tick by tick.
+-- CHECK, with the units counted at the starts alone: a load grows only where an activity starts.
 use Prim.Native.Nat.{ℕ}
-use mathlib.Core.Bool.{Bool, true, false}
+use mathlib.Core.Bool.{Bool, true, false, _&&_}
 use mathlib.Core.List.{List}
-use mathlib.Core.Path.{_≡_, refl, sym, ap}
-use borrow.Author.Tests.{ltb-true}
-use lib.Dec.{ltb}
+use mathlib.Core.Path.{_≡_, refl, ap}
+use borrow.Author.Tests.{leb-true, le-leb}
+use lib.Dec.{leb, ltb}
+use Rattle.base.specs.Below.{everyBelow, _implies_}
+use Rattle.base.proofs.Bools.{same-bool, both, and-left, and-right}
+use Rattle.base.proofs.Below.{implies-elim, implies-intro, every-at, every-of}
 use Rattle.plan.specs.Plan.{Plan}
 use Rattle.plan.specs.declared.Refusal.the-variants.{NoSuchVariant}
 use Rattle.term.specs.Term.{Term}
-use Rattle.term.specs.Valid.{Valid}
 use Rattle.term.specs.Variants.{variantCount}
-use Rattle.variant.specs.Project.{variantAt}
-use Rattle.variant.specs.Tables.{tablesOf}
-use Rattle.variant.proofs.Tables.{tables-hold}
+use Rattle.schedule.specs.Project.{Project}
+use Rattle.schedule.specs.Schedule.{Starts, load, latestEnd, placed, inOrder, withinCapacity, feasible}
+use Rattle.schedule.specs.Sessions.{startsOf}
+use Rattle.schedule.proofs.Reflect.{feasible-is}
+use Rattle.schedule.proofs.Growth.{starts-enough}
+use Rattle.variant.specs.Project.{projectOf, variantAt}
+use Rattle.variant.specs.Timetable.{isMarked, isSession}
 use Rattle.judge.specs.Judge.{Verdict, accepts, refuses, judge}
-use Rattle.judge.proofs.Accepts.{accepted-valid}
-use Rattle.feasibility.specs.Model.{isRight}
-use Rattle.feasibility.proofs.Meaning.{session-same}
 use Rattle.inspect.specs.Answer.{checkVariant, checkBy, checkOf}
 use Rattle.inspect.specs.declared.CheckAnswer.{CheckAnswer}
 use Rattle.inspect.specs.declared.CheckAnswer.the-variants.{Checked, Refused}
-use Rattle.plan_exact.proofs.Variant.{chosen}
+
+module _ (P : Project) (S : Starts) where
+  abbrev withinAt : ℕ → Bool
+  withinAt t = everyBelow (P .resources) λ r. leb (load P S t r) (P .capacity r)
+
+  abbrev isOrdered : Bool
+  isOrdered = placed P S && inOrder P S
+
+  unfoldable pub withinAtStarts : Bool
+  withinAtStarts = everyBelow (P .size) λ j. P .present j implies withinAt (S j)
+
+  at-starts : feasible P S ≡ true → withinAtStarts ≡ true
+  unfolding withinAtStarts
+  at-starts e =
+      every-of (P .size) (λ j. P .present j implies withinAt (S j))
+      (λ j l.
+      implies-intro (P .present j) (withinAt (S j))
+      (λ y.
+      every-of (P .resources) (λ r. leb (load P S (S j) r) (P .capacity r))
+      (λ r b. le-leb (load P S (S j) r) (P .capacity r) (feasible-is P S e .fits (S j) r b))))
+
+  on-every-tick : withinAtStarts ≡ true → withinCapacity P S ≡ true
+  unfolding withinAtStarts withinCapacity
+  on-every-tick e =
+      every-of (latestEnd P S) withinAt
+      (λ t b.
+      every-of (P .resources) (λ r. leb (load P S t r) (P .capacity r))
+      (λ r l.
+      le-leb (load P S t r) (P .capacity r)
+      (starts-enough P S r (P .capacity r)
+      (λ k h.
+      leb-true (load P S (S k) r) (P .capacity r)
+      (every-at (P .resources) (λ r. leb (load P S (S k) r) (P .capacity r))
+      (implies-elim (P .present k) (withinAt (S k))
+      (every-at (P .size) (λ j. P .present j implies withinAt (S j)) e k (h .below)) (h .there))
+      r l))
+      t)))
+
+  feasible-same : feasible P S ≡ (isOrdered && withinAtStarts)
+  unfolding feasible
+  feasible-same =
+      same-bool (feasible P S) (isOrdered && withinAtStarts)
+      (λ e. both (and-left isOrdered (withinCapacity P S) e) (at-starts e))
+      (λ e.
+      both (and-left isOrdered withinAtStarts e) (on-every-tick (and-right isOrdered withinAtStarts e)))
+
+-- The test of one timetable, and the answer by it.
+abbrev isKept : Plan → Term → List ℕ → Bool
+isKept p w row =
+    let P : Project = projectOf p w in isMarked w row && (isOrdered P (startsOf row) && withinAtStarts P (startsOf row))
 
 abbrev testVariant : Bool → Plan → Term → ℕ → List ℕ → CheckAnswer
-testVariant true p t v row = Checked (isRight (tablesOf p (variantAt t v)) row)
+testVariant true p t v row = Checked (isKept p (variantAt t v) row)
 testVariant false p t v row = Refused NoSuchVariant
 
 abbrev testVerdict : Verdict → ℕ → List ℕ → CheckAnswer
@@ -33,19 +85,18 @@ testVerdict (refuses r) v row = Refused r
 unfoldable pub checkModel : List ℕ → ℕ → List ℕ → CheckAnswer
 checkModel s v row = testVerdict (judge s) v row
 
-test-variant : (p : Plan) (t : Term) → Valid p t → (v : ℕ) (row : List ℕ) (b : Bool) → ltb v (variantCount t) ≡ b
+test-variant : (p : Plan) (t : Term) (v : ℕ) (row : List ℕ) (b : Bool)
     → checkVariant b p t v row ≡ testVariant b p t v row
-test-variant p t valid v row true e =
-    let c = chosen p t v valid (ltb-true v (variantCount t) e) in
-    ap Checked
-    (sym (session-same p (variantAt t v) (tablesOf p (variantAt t v)) row (valid .ranges) (tables-hold p t v c)))
-test-variant p t valid v row false e = refl
+unfolding isSession
+test-variant p t v row true =
+    let w : Term = variantAt t v in
+    ap (λ (b : Bool). Checked (isMarked w row && b)) (feasible-same (projectOf p w) (startsOf row))
+test-variant p t v row false = refl
 
-test-verdict : (s : List ℕ) (v : ℕ) (row : List ℕ) (o : Verdict) → judge s ≡ o → checkBy o v row ≡ testVerdict o v row
-test-verdict s v row (accepts p t) e =
-    test-variant p t (accepted-valid s p t e .0) v row (ltb v (variantCount t)) refl
-test-verdict s v row (refuses r) e = refl
+test-verdict : (v : ℕ) (row : List ℕ) (o : Verdict) → checkBy o v row ≡ testVerdict o v row
+test-verdict v row (accepts p t) = test-variant p t v row (ltb v (variantCount t))
+test-verdict v row (refuses r) = refl
 
 pub check-is : (s : List ℕ) (v : ℕ) (row : List ℕ) → checkOf s v row ≡ checkModel s v row
 unfolding checkOf checkModel
-check-is s v row = test-verdict s v row (judge s) refl
+check-is s v row = test-verdict v row (judge s)

@@ -1,13 +1,20 @@
--- COUNT, LIST, BEST and the makespans of a variant, as the search's model computes them: the rows that it finds are the
--- pairs, once they are sorted.
+-- COUNT, LIST, BEST and the makespans of a variant, as the scan computes them: the rows that it finds are the pairs,
+-- once they are sorted.
 use Prim.Native.Nat.{ℕ, suc, _*_, _<_}
-use mathlib.Core.Bool.{Bool, true, false, false≢true}
-use mathlib.Core.List.{List, [], _++_, map, Pairwise·imp, Perm·symm}
-use mathlib.Core.Path.{_≡_, refl, sym, ap, _∙_}
+use native.Mathlib.Decide.{ℕ-discrete}
+use native.Mathlib.Omega.{arith}
+use mathlib.Core.Bool.{Bool, true, false, not, false≢true}
+use mathlib.Core.List.{List, [], _∷_, _++_, map, Pairwise·imp, List·Mem, List·Memᴰ, List-discrete, Perm, Perm·map}
+use mathlib.Core.List.{Perm·mem-iff, Perm·symm}
+use mathlib.Core.Path.{_≡_, refl, sym, ap, subst, _∙_}
 use borrow.Author.Tests.{ltb-true}
 use lib.Dec.{eqb, leb, ltb}
 use lib.ListN.{length, getD, drop}
-use Rattle.base.specs.Lists.{keep, leastOf, cellsOf}
+use Rattle.base.specs.Below.{everyBelow}
+use Rattle.base.specs.Lists.{keep, gather, isOneOf, leastOf, cellsOf}
+use Rattle.base.proofs.Below.{every-same}
+use Rattle.base.proofs.Bools.{same-bool}
+use Rattle.base.proofs.Lists.{mem-found, one-of-is, one-of, keep-same, keep-perm, gather-perm}
 use Rattle.base.specs.Order.{sorted}
 use Rattle.base.proofs.Order.{before-not-after, sorted-is}
 use Rattle.plan.specs.Outcome.{Outcome}
@@ -21,12 +28,10 @@ use Rattle.schedule.specs.Schedule.{makespan}
 use Rattle.schedule.specs.Sessions.{sessions, startsOf}
 use Rattle.schedule.proofs.Box.{sessions-ordered}
 use Rattle.timetable.specs.Mark.{mark}
-use Rattle.scan.specs.Model.{starts, scanOf, problemOf}
+use Rattle.scan.specs.Components.{componentOf}
 use Rattle.variant.specs.Project.{projectOf, variantAt}
-use Rattle.variant.specs.Pairs.{pairs, pairCount}
-use Rattle.variant.specs.Tables.{tablesOf}
+use Rattle.variant.specs.Pairs.{sessionsOf, isNew, pairs, pairCount}
 use Rattle.variant.specs.Timetable.{timetableOf}
-use Rattle.variant.proofs.Tables.{tables-hold}
 use Rattle.judge.specs.Judge.{Verdict, accepts, refuses, judge}
 use Rattle.judge.proofs.Accepts.{accepted-valid}
 use Rattle.answers.specs.Count.{countOf, countBy, countWithin}
@@ -39,20 +44,69 @@ use Rattle.answers.specs.declared.CountAnswer.{CountAnswer}
 use Rattle.answers.specs.declared.CountAnswer.the-variants as CountAnswers
 use Rattle.answers.specs.declared.ListAnswer.{ListAnswer}
 use Rattle.answers.specs.declared.ListAnswer.the-variants.{Listed, Refused}
-use Rattle.plan_exact.proofs.Rows.{allRows, rows-sorted}
+use Rattle.plan_exact.proofs.Rows.{rows-sorted}
 use Rattle.plan_exact.proofs.Variant.{chosen}
-use Rattle.plan_exact.proofs.Found.{variant-perm}
+use Rattle.plan_exact.proofs.Found.{variant-scan}
 use Rattle.campaigns.specs.Table.{Spans}
+use Rattle.campaigns.proofs.Quick.{quickSchedules, schedules-quick}
+
+-- What the scan finds for variant v, and whether it finds a row for no lower one.
+abbrev scanned : Plan → Term → ℕ → List (List ℕ)
+scanned p t v =
+    let P : Project = projectOf p (variantAt t v) in quickSchedules P (componentOf P) mark
+
+unfoldable pub isFirst : Plan → Term → ℕ → List ℕ → Bool
+isFirst p t v row = everyBelow v λ u. not (isOneOf row (scanned p t u))
 
 -- The rows of all variants.
+abbrev allRows : Plan → Term → List (List ℕ)
+allRows p t = gather (variantCount t) λ v. map (v ∷_) (keep (isFirst p t v) (scanned p t v))
+
 unfoldable pub found : Plan → Term → List (List ℕ)
-found p t = sorted (allRows p t (λ v. tablesOf p (variantAt t v)))
+found p t = sorted (allRows p t)
+
+module _ (p : Plan) (t : Term) (valid : Valid p t) where
+  scan-perm : (v : ℕ) → v < variantCount t → Perm (scanned p t v) (sessionsOf p t v)
+  scan-perm v l =
+      let P : Project = projectOf p (variantAt t v) in
+      subst (λ (rows : List (List ℕ)). Perm rows (sessionsOf p t v)) (sym (schedules-quick P (componentOf P) mark))
+      (variant-scan p t v (chosen p t v valid l))
+
+  one-same : (v : ℕ) → v < variantCount t → (row : List ℕ)
+      → isOneOf row (scanned p t v) ≡ isOneOf row (sessionsOf p t v)
+  one-same v l row =
+      let found-in : (rows : List (List ℕ)) → List·Mem row rows → List·Memᴰ row rows =
+      mem-found (List-discrete ℕ-discrete) row in
+      same-bool (isOneOf row (scanned p t v)) (isOneOf row (sessionsOf p t v))
+      (λ y.
+      one-of row (sessionsOf p t v)
+      (found-in (sessionsOf p t v) (Perm·mem-iff (scan-perm v l) .0 ∣ one-of-is row (scanned p t v) y ∣₁)))
+      (λ y.
+      one-of row (scanned p t v)
+      (found-in (scanned p t v) (Perm·mem-iff (scan-perm v l) .1 ∣ one-of-is row (sessionsOf p t v) y ∣₁)))
+
+  first-same : (v : ℕ) → v < variantCount t → (row : List ℕ) → isFirst p t v row ≡ isNew p t v row
+  unfolding isFirst isNew
+  first-same v l row =
+      every-same v (λ u. not (isOneOf row (scanned p t u))) (λ u. not (isOneOf row (sessionsOf p t u)))
+      (λ u b. ap not (one-same u (omega arith) row))
+
+  all-perm : Perm (allRows p t) (pairs p t)
+  unfolding pairs
+  all-perm =
+      gather-perm (variantCount t) (λ v. map (v ∷_) (keep (isFirst p t v) (scanned p t v)))
+      (λ v. map (v ∷_) (keep (isNew p t v) (sessionsOf p t v)))
+      (λ v l.
+      Perm·map (v ∷_)
+      (subst (λ (rows : List (List ℕ)). Perm rows (keep (isNew p t v) (sessionsOf p t v)))
+      (sym (keep-same (isFirst p t v) (isNew p t v) (scanned p t v) (λ row m. first-same v l row)))
+      (keep-perm (isNew p t v) (scan-perm v l))))
 
 found-is : (s : List ℕ) (p : Plan) (t : Term) → judge s ≡ accepts p t → pairs p t ≡ found p t
 unfolding found
 found-is s p t e =
     let valid : Valid p t = accepted-valid s p t e .0 in
-    sym (rows-sorted p t valid (λ v. tablesOf p (variantAt t v)) (λ v l. tables-hold p t v (chosen p t v valid l)))
+    sym (rows-sorted p t (allRows p t) (all-perm p t valid))
 
 -- COUNT, by the rows.
 abbrev countVerdict : Verdict → ℕ → CountAnswer
@@ -149,8 +203,7 @@ best-is s cap = best-verdict s cap (judge s) refl
 
 -- The makespans of variant v, and whether the file is accepted and has it.
 abbrev variantRows : Plan → Term → ℕ → List (List ℕ)
-variantRows p t v =
-    let x = tablesOf p (variantAt t v) in sorted (map (starts (problemOf x) (length (p .activities))) (scanOf x))
+variantRows p t v = sorted (scanned p t v)
 
 abbrev spansVerdict : Verdict → ℕ → List ℕ
 spansVerdict (accepts p t) v =
@@ -171,9 +224,8 @@ variant-rows : (p : Plan) (t : Term) → Valid p t → (v : ℕ) → v < variant
     → sessions (projectOf p (variantAt t v)) mark ≡ variantRows p t v
 variant-rows p t valid v l =
     let P : Project = projectOf p (variantAt t v) in
-    let c = chosen p t v valid l in
-    sorted-is (sessions P mark) _ (Pairwise·imp before-not-after (sessions-ordered P mark))
-    (Perm·symm (variant-perm p t v c (tablesOf p (variantAt t v)) (tables-hold p t v c)))
+    sorted-is (sessions P mark) (scanned p t v) (Pairwise·imp before-not-after (sessions-ordered P mark))
+    (Perm·symm (scan-perm p t valid v l))
 
 spans-verdict : (s : List ℕ) (v : ℕ) (ms : List ℕ) (o : Verdict) → judge s ≡ o → hasVerdict o v ≡ true
     → spansVerdict o v ≡ ms → Spans s v ms

@@ -11,8 +11,8 @@ use lib.ListN.{getD}
 use Rattle.plan.specs.Outcome.{Outcome}
 use Rattle.plan.specs.Refusals.{numberOf, figureOf}
 use Rattle.plan.specs.declared.Refusal.{Refusal}
-use Rattle.plan.specs.declared.Refusal.the-variants.{Length, Form, Range, GroupOfOne, NotOneTerm, Twice}
-use Rattle.plan.specs.declared.Refusal.the-variants.{TooManyVariants, NoSuchVariant, OverCap, AreaTooShort}
+use Rattle.plan.specs.declared.Refusal.the-variants.{Length, Form, Range, GroupOfOne, OverCapacity, NotOneTerm}
+use Rattle.plan.specs.declared.Refusal.the-variants.{Twice, TooManyVariants, NoSuchVariant, OverCap, AreaTooShort}
 use Rattle.read.specs.declared.ReadAnswer.{ReadAnswer}
 use Rattle.read.specs.declared.ReadAnswer.the-variants.{Read, Refused}
 use Rattle.base.proofs.Bools.{and-left, and-right}
@@ -33,7 +33,7 @@ refusalOf : ℕ → ℕ → Refusal
 refusalOf n k =
     getD
     (Length ∷ Form k ∷ Range k ∷ NotOneTerm ∷ Twice ∷ TooManyVariants ∷ OverCap ∷ AreaTooShort k ∷ NoSuchVariant
-    ∷ GroupOfOne k ∷ [])
+    ∷ GroupOfOne k ∷ OverCapacity k ∷ [])
     (n - 1)
     Length
 
@@ -43,6 +43,7 @@ refusal-is Length = refl
 refusal-is (Form k) = refl
 refusal-is (Range k) = refl
 refusal-is (GroupOfOne k) = refl
+refusal-is (OverCapacity k) = refl
 refusal-is NotOneTerm = refl
 refusal-is Twice = refl
 refusal-is TooManyVariants = refl

@@ -88,6 +88,18 @@ fn put_durations() {
     put_all_calls(b"soak", &samples::soak());
 }
 
+// Several units to a resource, several resources to an activity or none.
+fn put_units() {
+    put_all_calls(b"two_arm_bench", &samples::two_arm_bench());
+    put_all_calls(b"two_arms", &samples::two_arms());
+    put_all_calls(b"arm_and_camera", &samples::arm_and_camera());
+    put_all_calls(b"both_arms", &samples::both_arms());
+    put_all_calls(b"shared_three_ways", &samples::shared_three_ways());
+    put_all_calls(b"without_resource", &samples::without_resource());
+    put_all_calls(b"dot_test_units", &samples::dot_test_units());
+    put_all_calls(b"units_at_capacity", &samples::units_at_capacity());
+}
+
 fn put_variants() {
     put_read(b"twelve_choices", &samples::twelve_choices());
     put_read(
@@ -96,9 +108,38 @@ fn put_variants() {
     );
 }
 
+fn put_byte(file: &mut [u8], at: usize, b: u8) {
+    if at < file.len() {
+        file[at] = b;
+    }
+}
+
+// The file begins with this text.
+fn begin(file: &mut [u8], text: &[u8]) {
+    for i in 0..text.len() {
+        put_byte(file, i, text[i]);
+    }
+}
+
+// READ of the first bytes of an area, which is not shorter.
+fn put_first(name: &[u8], area: &[u8], bytes: usize) {
+    if bytes <= area.len() {
+        put_read(name, &area[..bytes]);
+    }
+}
+
+// The longest file of each edition, and with newlines behind it.
 fn put_lengths() {
     put_read(b"empty_file", b"");
-    put_read(b"file_of_984_bytes", &[b'a'; 984]);
+    let mut file = [b'\n'; 2176];
+    begin(&mut file, &samples::longest_edition_1());
+    put_first(b"edition_1_of_983_bytes", &file, 983);
+    put_first(b"edition_1_of_984_bytes", &file, 984);
+    put_first(b"edition_1_of_2175_bytes", &file, 2175);
+    put_first(b"edition_1_of_2176_bytes", &file, 2176);
+    begin(&mut file, &samples::longest());
+    put_first(b"edition_2_of_2175_bytes", &file, 2175);
+    put_first(b"edition_2_of_2176_bytes", &file, 2176);
 }
 
 fn put_faults() {
@@ -108,11 +149,24 @@ fn put_faults() {
     put_read(b"group_of_one", &samples::group_of_one());
 }
 
+fn put_unit_faults() {
+    put_read(b"units_over_capacity", &samples::units_over_capacity());
+    put_read(b"units_16", &samples::units_16());
+    put_read(b"units_over_and_16", &samples::units_over_and_16());
+    put_read(b"capacity_16", &samples::capacity_16());
+    put_read(b"capacity_absent", &samples::capacity_absent());
+    put_read(b"count_absent", &samples::count_absent());
+    put_read(b"count_too_many", &samples::count_too_many());
+    put_read(b"edition_3", &samples::edition_3());
+}
+
 pub fn put_all() {
     put_dot_test(&samples::dot_test());
     put_sessions();
     put_durations();
+    put_units();
     put_variants();
     put_lengths();
     put_faults();
+    put_unit_faults();
 }

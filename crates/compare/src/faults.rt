@@ -5,15 +5,23 @@ const FAULTS: u64 = 32;
 
 const FILES: u64 = crate::PLANS * FAULTS;
 
-// The refusals that rest on the file alone have the numbers 1 to 6 and 10; 0 stands for none.
-const NUMBERS: usize = 8;
+// The refusals that rest on the file alone have the numbers 1 to 6, 10 and 11; 0 stands for none.
+const NUMBERS: usize = 9;
 
 fn place(number: u64) -> usize {
-    if number == 10 { 7 } else { number as usize }
+    match number {
+        10 => 7,
+        11 => 8,
+        _ => number as usize,
+    }
 }
 
 fn number_at(place: usize) -> u64 {
-    if place == 7 { 10 } else { place as u64 }
+    match place {
+        7 => 10,
+        8 => 11,
+        _ => place as u64,
+    }
 }
 
 // How many files the enumerator could judge, on how many of them the two agree, and how many have each number.

@@ -72,7 +72,7 @@ pub fn put_refusal(refusal: Refusal) -> bool {
 // The line that says in words why a call refused.
 pub fn put_reason(refusal: Refusal) -> bool {
     match refusal {
-        Refusal::Length => put(b"reason=The plan file is empty or longer than 983 bytes.\n"),
+        Refusal::Length => put(b"reason=The plan file is empty or longer than 2175 bytes.\n"),
         Refusal::Form(_) => put(
             b"reason=The line of that number is absent or ill formed, or follows the last line of the plan.\n",
         ),
@@ -81,6 +81,9 @@ pub fn put_reason(refusal: Refusal) -> bool {
         ),
         Refusal::GroupOfOne(_) => put(
             b"reason=The group on the line of that number has a single child.\n",
+        ),
+        Refusal::OverCapacity(_) => put(
+            b"reason=A count of units on the line of that number is above the capacity of its device.\n",
         ),
         Refusal::NotOneTerm => put(b"reason=The nodes are not one whole term.\n"),
         Refusal::Twice => put(b"reason=Some variant has an activity twice.\n"),

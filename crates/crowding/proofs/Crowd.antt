@@ -22,7 +22,7 @@ use Rattle.sets.proofs.Members.{lowest-is}
 use Rattle.instance.specs.Instance.{Laid, ownOf, isTight}
 use Rattle.instance.specs.Table.{actsOf, componentAt, tightOf}
 use Rattle.steps.proofs.Own.{component-has, component-is, tight-with}
-use Rattle.crowding.specs.Crowd.{isExtra, crowd, Uncontested, Acts}
+use Rattle.crowding.specs.Crowd.{isExtra, crowd, Acts}
 
 -- ---- which are extra
 
@@ -110,20 +110,17 @@ module _ (t : List ℕ) (set : ℕ) (low : set < 2 ^ most) (z : crowd t set ≡ 
       (λ l. omega (arith, sum-term most (λ i. one (counts t set i)) i l, ap one (both y extra)))
       (λ g. true-not-false y (has-above most set i low (omega arith)))
 
-  pub crowd-none : Uncontested t set
-  crowd-none =
-      record {
-        tight =
-            λ i y.
-            by-bool (has (tightOf t) i) (λ e. e) (λ n. absurd (none-extra i y (extra-loose t set i n)));
-        apart =
-            λ i k y x on.
-            by-cases (ℕ-discrete i k) (λ e. e)
-            (λ ne.
-            by-cases (decLt i k)
-            (λ l. absurd (none-extra k x (extra-after t set k i l y on)))
-            (λ g. absurd (none-extra i y (extra-after t set i k (omega arith) x (sym on)))));
-      }
+  pub crowd-tight : (i : ℕ) → has set i ≡ true → has (tightOf t) i ≡ true
+  crowd-tight i y =
+      by-bool (has (tightOf t) i) (λ e. e) (λ n. absurd (none-extra i y (extra-loose t set i n)))
+
+  pub crowd-sole : (i k : ℕ) → has set i ≡ true → has set k ≡ true → ownOf t i ≡ ownOf t k → i ≡ k
+  crowd-sole i k y x on =
+      by-cases (ℕ-discrete i k) (λ e. e)
+      (λ ne.
+      by-cases (decLt i k)
+      (λ l. absurd (none-extra k x (extra-after t set k i l y on)))
+      (λ g. absurd (none-extra i y (extra-after t set i k (omega arith) x (sym on)))))
 
 -- ---- one member fewer
 

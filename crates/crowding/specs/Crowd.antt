@@ -19,12 +19,6 @@ isExtra t set i =
 unfoldable pub crowd : List ℕ → ℕ → ℕ
 crowd t set = sumBelow most λ i. cond (has set i && isExtra t set i) 1 0
 
--- Nothing of the set is contested any more: each is in a component in which no two can run together, and no two are of
--- one component.
-pub record Uncontested (t : List ℕ) (set : ℕ) : Type 0 where
-  pub tight : (i : ℕ) → has set i ≡ true → has (tightOf t) i ≡ true
-  pub apart : (i k : ℕ) → has set i ≡ true → has set k ≡ true → ownOf t i ≡ ownOf t k → i ≡ k
-
 -- The set is one of activities.
 pub record Acts (t : List ℕ) (set : ℕ) : Type 0 where
   pub low : set < 2 ^ most

@@ -2,8 +2,8 @@
 // planner.
 mod lower;
 mod placing;
-mod relation;
 mod rows;
+mod rules;
 mod session;
 mod unit;
 
@@ -29,12 +29,12 @@ pub struct Enumerated {
 // The sessions of one more variant, that of the picks.
 fn with_variant(file: &[u8], p: Plan, picks: Picks, s: Search, area: &mut [u32]) -> Search {
     let v = plain::picked(p, picks);
-    let relations = relation::relations(p, v);
+    let rules = rules::rules(p, v);
     let duration = v.duration;
     let mut t = s;
     t.room = v.room;
     t.unit = unit::unit(&duration);
-    t = placing::place(file, &relations, &duration, [ABSENT; ACTS], 0, t, area);
+    t = placing::place(file, &rules, &duration, [ABSENT; ACTS], 0, t, area);
     t.variant = std::num::wrapping_add_u32(s.variant, 1);
     t
 }

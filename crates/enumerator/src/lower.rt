@@ -1,6 +1,6 @@
 // Whether a lower variant has a session too. Each one is made anew from the file and tested by definition.
 use crate::ABSENT;
-use crate::relation::relations;
+use crate::rules::rules;
 use crate::session::active;
 use crate::session::feasible;
 use crate::unit::unit;
@@ -24,7 +24,7 @@ fn is_active(p: Plan, v: Variant, starts: &[u32; ACTS]) -> bool {
     if !has_activities(v, starts) {
         return false;
     }
-    let all = relations(p, v);
+    let all = rules(p, v);
     let duration = v.duration;
     feasible(&all, &duration, starts, p.acts)
         && active(&all, &duration, starts, p.acts, unit(&duration))

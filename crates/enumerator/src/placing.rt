@@ -1,6 +1,6 @@
 // Every feasible session of a variant whose starts are multiples of its unit, at most the sum of its durations.
 use crate::lower::is_active_below;
-use crate::relation::PAIRS;
+use crate::rules::RULES;
 use crate::session::active;
 use crate::session::fits;
 use crate::session::makespan;
@@ -48,7 +48,7 @@ fn with_active(area: &mut [u32], starts: &[u32; ACTS], s: Search) -> Search {
 // A feasible session is found. It has a row if it is active, and for no lower variant.
 fn with_session<'a>(
     file: &'a [u8],
-    relations: &'a [u8; PAIRS],
+    rules: &'a [u32; RULES],
     duration: &'a [u32; ACTS],
     starts: &'a [u32; ACTS],
     s: Search,
@@ -61,7 +61,7 @@ fn with_session<'a>(
     if length < s.makespan {
         t.makespan = length;
     }
-    let is_active = active(relations, duration, starts, s.acts, s.unit);
+    let is_active = active(rules, duration, starts, s.acts, s.unit);
     if is_active && !is_active_below(file, s.variant, starts) {
         return with_active(area, starts, t);
     }
@@ -80,7 +80,7 @@ fn with_start(starts: [u32; ACTS], i: usize, tick: u32) -> [u32; ACTS] {
 // come by the start of activity 0, then of activity 1, and so on.
 pub fn place<'a>(
     file: &'a [u8],
-    relations: &'a [u8; PAIRS],
+    rules: &'a [u32; RULES],
     duration: &'a [u32; ACTS],
     starts: [u32; ACTS],
     i: usize,
@@ -91,20 +91,20 @@ pub fn place<'a>(
         return s;
     }
     if ACTS <= i {
-        return with_session(file, relations, duration, &starts, s, area);
+        return with_session(file, rules, duration, &starts, s, area);
     }
     if duration[i] == 0 {
-        return place(file, relations, duration, starts, i + 1, s, area);
+        return place(file, rules, duration, starts, i + 1, s, area);
     }
     let ticks = multiples(s.unit, s.room);
     let mut t = s;
     t.tried = std::num::wrapping_add_u32(s.tried, ticks);
     let mut tick = 0u32;
     for k in 0..ticks {
-        if fits(relations, duration, &starts, s.acts, i, tick) {
+        if fits(rules, duration, &starts, s.acts, i, tick) {
             t = place(
                 file,
-                relations,
+                rules,
                 duration,
                 with_start(starts, i, tick),
                 i + 1,

@@ -1,34 +1,23 @@
 // Feasible and active, by definition. A session under way has a start for some of the activities of its variant;
 // the others are absent.
 use crate::ABSENT;
-use crate::relation::AFTER;
-use crate::relation::APART;
-use crate::relation::BEFORE;
-use crate::relation::PAIRS;
+use crate::rules::AFTER;
+use crate::rules::BEFORE;
+use crate::rules::RULES;
+use crate::rules::capacity;
+use crate::rules::relation;
+use crate::rules::units;
 use crate::unit::multiples;
 use plain::ACTS;
+use plain::RESOURCES;
 
 fn end(start: u32, duration: u32) -> u32 {
     std::num::wrapping_add_u32(start, duration)
 }
 
-// May a session have both of two activities, by their relation, starts and ends?
-fn agree(relation: u8, start: u32, end: u32, other_start: u32, other_end: u32) -> bool {
-    if relation == BEFORE {
-        return end <= other_start;
-    }
-    if relation == AFTER {
-        return other_end <= start;
-    }
-    if relation == APART {
-        return (end <= other_start) | (other_end <= start);
-    }
-    true
-}
-
-// May activity i start at a tick beside activity j as it stands?
-fn beside<'a>(
-    relations: &'a [u8; PAIRS],
+// May activity i start at a tick where it precedes activity j as it stands, or is preceded by it?
+fn in_order<'a>(
+    rules: &'a [u32; RULES],
     duration: &'a [u32; ACTS],
     starts: &'a [u32; ACTS],
     i: usize,
@@ -41,22 +30,18 @@ fn beside<'a>(
     if ACTS <= j {
         return false;
     }
-    if starts[j] == ABSENT {
+    let start = starts[j];
+    if start == ABSENT {
         return true;
     }
-    let start = starts[j];
-    agree(
-        relations[i * ACTS + j],
-        tick,
-        end(tick, duration[i]),
-        start,
-        end(start, duration[j]),
-    )
+    let r = relation(rules, i, j);
+    ((r != BEFORE) | (end(tick, duration[i]) <= start))
+        & ((r != AFTER) | (end(start, duration[j]) <= tick))
 }
 
-// May activity i start at a tick, the others of the first n as they stand?
-pub fn fits<'a>(
-    relations: &'a [u8; PAIRS],
+// May activity i start at a tick by precedence, the others of the first n as they stand?
+fn all_in_order<'a>(
+    rules: &'a [u32; RULES],
     duration: &'a [u32; ACTS],
     starts: &'a [u32; ACTS],
     n: usize,
@@ -64,22 +49,125 @@ pub fn fits<'a>(
     tick: u32,
 ) -> bool {
     for j in 0..n {
-        if !beside(relations, duration, starts, i, tick, j) {
+        if !in_order(rules, duration, starts, i, tick, j) {
             return false;
         }
     }
     true
 }
 
+// Does activity j run on a tick?
+fn runs<'a>(duration: &'a [u32; ACTS], starts: &'a [u32; ACTS], j: usize, tick: u32) -> bool {
+    if ACTS <= j {
+        return false;
+    }
+    let start = starts[j];
+    (start != ABSENT) & (start <= tick) & (tick < end(start, duration[j]))
+}
+
+// The units of a resource that are held on a tick, by the others than activity i of the first n.
+fn held<'a>(
+    rules: &'a [u32; RULES],
+    duration: &'a [u32; ACTS],
+    starts: &'a [u32; ACTS],
+    n: usize,
+    i: usize,
+    tick: u32,
+    resource: usize,
+) -> u32 {
+    let mut sum = 0u32;
+    for j in 0..n {
+        if (j != i) && runs(duration, starts, j, tick) {
+            sum = std::num::wrapping_add_u32(sum, units(rules, j, resource));
+        }
+    }
+    sum
+}
+
+// Are as many units of a resource left on a tick as activity i holds?
+fn has_units<'a>(
+    rules: &'a [u32; RULES],
+    duration: &'a [u32; ACTS],
+    starts: &'a [u32; ACTS],
+    n: usize,
+    i: usize,
+    tick: u32,
+    resource: usize,
+) -> bool {
+    let own = units(rules, i, resource);
+    if own == 0 {
+        return true;
+    }
+    let others = held(rules, duration, starts, n, i, tick, resource);
+    std::num::wrapping_add_u32(own, others) <= capacity(rules, resource)
+}
+
+// Is there room for activity i on a tick, the others of the first n as they stand?
+fn has_room<'a>(
+    rules: &'a [u32; RULES],
+    duration: &'a [u32; ACTS],
+    starts: &'a [u32; ACTS],
+    n: usize,
+    i: usize,
+    tick: u32,
+) -> bool {
+    for resource in 0..RESOURCES {
+        if !has_units(rules, duration, starts, n, i, tick, resource) {
+            return false;
+        }
+    }
+    true
+}
+
+// Does a start lie behind a tick and before the end of activity i, if i starts on that tick?
+fn is_inside(duration: &[u32; ACTS], start: u32, i: usize, tick: u32) -> bool {
+    if ACTS <= i {
+        return false;
+    }
+    (start != ABSENT) & (tick < start) & (start < end(tick, duration[i]))
+}
+
+// Is there room for activity i from a tick to its end? On no tick but those on which another one starts are more units
+// held than on the tick before.
+fn has_room_from<'a>(
+    rules: &'a [u32; RULES],
+    duration: &'a [u32; ACTS],
+    starts: &'a [u32; ACTS],
+    n: usize,
+    i: usize,
+    tick: u32,
+) -> bool {
+    for j in 0..ACTS {
+        let start = starts[j];
+        if is_inside(duration, start, i, tick) && !has_room(rules, duration, starts, n, i, start) {
+            return false;
+        }
+    }
+    has_room(rules, duration, starts, n, i, tick)
+}
+
+// May activity i start at a tick, the others of the first n as they stand?
+pub fn fits<'a>(
+    rules: &'a [u32; RULES],
+    duration: &'a [u32; ACTS],
+    starts: &'a [u32; ACTS],
+    n: usize,
+    i: usize,
+    tick: u32,
+) -> bool {
+    all_in_order(rules, duration, starts, n, i, tick)
+        && has_room_from(rules, duration, starts, n, i, tick)
+}
+
 // May each activity start where it does, the others as they stand?
 pub fn feasible<'a>(
-    relations: &'a [u8; PAIRS],
+    rules: &'a [u32; RULES],
     duration: &'a [u32; ACTS],
     starts: &'a [u32; ACTS],
     n: usize,
 ) -> bool {
     for i in 0..ACTS {
-        if (starts[i] != ABSENT) && !fits(relations, duration, starts, n, i, starts[i]) {
+        if (starts[i] != ABSENT) && !fits(rules, duration, starts, n, i, starts[i]) {
             return false;
         }
     }
@@ -88,7 +176,7 @@ pub fn feasible<'a>(
 
 // May activity i start sooner, the others unchanged? If so it may at a multiple of the unit.
 fn movable<'a>(
-    relations: &'a [u8; PAIRS],
+    rules: &'a [u32; RULES],
     duration: &'a [u32; ACTS],
     starts: &'a [u32; ACTS],
     n: usize,
@@ -101,7 +189,7 @@ fn movable<'a>(
     }
     let mut tick = 0u32;
     for k in 0..multiples(unit, start) {
-        if fits(relations, duration, starts, n, i, tick) {
+        if fits(rules, duration, starts, n, i, tick) {
             return true;
         }
         tick = std::num::wrapping_add_u32(tick, unit);
@@ -110,14 +198,14 @@ fn movable<'a>(
 }
 
 pub fn active<'a>(
-    relations: &'a [u8; PAIRS],
+    rules: &'a [u32; RULES],
     duration: &'a [u32; ACTS],
     starts: &'a [u32; ACTS],
     n: usize,
     unit: u32,
 ) -> bool {
     for i in 0..ACTS {
-        if movable(relations, duration, starts, n, i, starts[i], unit) {
+        if movable(rules, duration, starts, n, i, starts[i], unit) {
             return false;
         }
     }

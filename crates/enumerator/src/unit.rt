@@ -1,7 +1,8 @@
-// The unit of a variant is the greatest common divisor of its durations, and no start is tried but its multiples. The
-// first tick on which an activity fits beside others is 0 or the end of one of them. So each start of an active session
-// is a sum of durations; where all starts are multiples, an activity that can start sooner can do so at a multiple; and
-// no feasible session is shorter than every active one.
+// The unit of a variant is the greatest common divisor of its durations, and no start is tried but its multiples. Room
+// comes only with an end, so the first tick on which an activity fits beside others is 0 or the end of one of them. So
+// each start of an active session is a sum of durations of other activities, and every active session is tried; where
+// all starts are multiples, an activity that can start sooner can do so at a multiple; and no feasible session is
+// shorter than every active one.
 use plain::ACTS;
 
 // The greatest common divisor of two numbers, by Euclid.

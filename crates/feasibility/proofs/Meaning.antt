@@ -1,194 +1,178 @@
 -- What the test says where its arguments stand for a plan and a variant: the timetable is a session of the variant.
-use Prim.Native.Nat.{ℕ, _+_, _≤_, _<_}
-use mathlib.Core.Bool.{Bool, true, false, not, Bool·beq, _&&_, _||_}
+use Prim.Native.Nat.{ℕ, _+_, _*_, _≤_, _<_, zero-le}
+use mathlib.Core.Bool.{Bool, true, not, Bool·beq, cond, _&&_, and-assoc}
 use mathlib.Core.List.{List}
-use mathlib.Core.Logic.{_≢_, _⊎_, inl, inr, ⊎-elim}
 use mathlib.Core.Path.{_≡_, refl, sym, ap, ap₂, _∙_}
 use native.Mathlib.Omega.{arith}
-use borrow.Author.Tests.{leb-true, le-leb, eqb-true, eqb-false, eq-eqb, ne-eqb, not-true}
-use lib.Dec.{leb, eqb}
+use borrow.Author.Tests.{leb-true, le-leb}
+use lib.Dec.{leb, ltb, eqb}
 use lib.ListN.{getD}
-use Rattle.plan.specs.Plan.{Plan, isPlan}
-use Rattle.sets.specs.Sets.{most, has}
+use Rattle.plan.specs.Limits.{mostResources}
+use Rattle.plan.specs.Plan.{Plan, planOf}
+use Rattle.plan.specs.declared.Tables.{Tables}
+use Rattle.sets.specs.Sets.{has}
 use Rattle.term.specs.Term.{Term}
 use Rattle.term.specs.Variants.{activities, member}
-use Rattle.base.specs.Below.{everyBelow, _implies_}
+use Rattle.base.specs.Below.{sumBelow}
 use Rattle.schedule.specs.Project.{Project}
-use Rattle.schedule.specs.Schedule.{Starts, endOf, feasible}
+use Rattle.schedule.specs.Schedule.{Starts, endOf, load, feasible}
 use Rattle.schedule.specs.Sessions.{startsOf}
 use Rattle.base.proofs.Bools.{true-not-false, same-bool, both, and-left, and-right}
-use Rattle.base.proofs.Below.{implies-elim, implies-intro, every-at, every-of, every-same}
-use Rattle.schedule.proofs.Load.{Has}
-use Rattle.schedule.specs.Words.{InWords}
+use Rattle.base.proofs.Below.{implies-elim, implies-intro, every-at, every-of, every-same, sum-eq}
+use Rattle.schedule.proofs.Load.{Has, holds}
+use Rattle.schedule.proofs.Reflect.{Feasible, feasible-is, feasible-of}
+use Rattle.schedule.proofs.Growth.{starts-enough}
 use Rattle.variant.specs.Project.{projectOf}
 use Rattle.timetable.specs.Mark.{mark, places}
+use Rattle.variant.specs.Precedence.{precedes}
 use Rattle.variant.specs.Timetable.{isMarked, isSession}
-use Rattle.variant.proofs.Instance.{resourceOf, acts-between, feasible-words, has-of, has-below, has-member}
-use Rattle.feasibility.specs.Model.{markRight, marksRight, endsBy, apart, agree, placeRight, placesRight, isRight}
+use Rattle.variant.specs.Tables.{OrderOf}
 use Rattle.variant.specs.declared.Variant.{Variant}
-use Rattle.variant.specs.Tables.{IsVariant}
+use Rattle.variant.proofs.Order.{precedes-members}
+use Rattle.variant.proofs.Instance.{has-of, has-below}
+use Rattle.variant.proofs.Tables.{resources-are, capacity-in, duration-in, units-in}
+use Rattle.judge.specs.Campaign.{Ranged}
+use Rattle.judge.proofs.Ranges.{acts-are}
+use Rattle.feasibility.specs.Model.{markRight, marksRight, endsBy, endsBefore, afterAll, orderKept, runsAt}
+use Rattle.feasibility.specs.Model.{heldAt, withinAt, withinAll, isRight}
 
--- One of two tests, as one of two facts.
-or-cases : (a b : Bool) → (a || b) ≡ true → (a ≡ true) ⊎ (b ≡ true)
-or-cases true b e = inl refl
-or-cases false b e = inr e
+module _ (t : Tables) (ranged : Ranged t) (w : Term) (x : Variant) (held : OrderOf w (x .present) (x .preds))
+    (starts : List ℕ) where
+  abbrev p : Plan
+  p = planOf t
 
-or-of : (a b : Bool) → (a ≡ true) ⊎ (b ≡ true) → (a || b) ≡ true
-or-of true b h = refl
-or-of false b (inl h) = true-not-false h refl
-or-of false b (inr h) = h
+  abbrev Q : Project
+  Q = projectOf p w
 
-module _ (p : Plan) (w : Term) (x : Variant) (starts : List ℕ) (valid : isPlan p ≡ true) (held : IsVariant p w x)
-  where
-    abbrev acts : ℕ
-    acts = x .acts
+  abbrev S : Starts
+  S = startsOf starts
 
-    abbrev resource : List ℕ
-    resource = x .resource
+  marks-same : marksRight (x .present) starts ≡ isMarked w starts
+  unfolding marksRight isMarked
+  marks-same =
+      every-same places (λ i. markRight (has (x .present) i) (getD starts i 0))
+      (λ i. Bool·beq (eqb (S i) mark) (not (member i (activities w))))
+      (λ i l. ap (λ b. markRight b (getD starts i 0)) (held .members i))
 
-    abbrev duration : List ℕ
-    duration = x .duration
+  -- The activities of the project are below the number of activities.
+  has-acts : (i : ℕ) → Has Q i → i < t .acts
+  has-acts i h = omega (arith, acts-are t ranged, has-below p w i h)
 
-    abbrev present : ℕ
-    present = x .present
+  -- Order.
 
-    abbrev preds : List ℕ
-    preds = x .preds
+  ends-same : (i j : ℕ) → i < t .acts → endsBy (t .duration) starts i j ≡ leb (endOf Q S i) (S j)
+  unfolding projectOf
+  ends-same i j l =
+      ap (λ (d : ℕ). leb (S i + d) (S j)) (sym (duration-in t (ranged .sized) (ranged .acts) i l))
 
-    abbrev Q : Project
-    Q = projectOf p w
+  before-same : (i j : ℕ) → j < t .acts → has (getD (x .preds) j 0) i ≡ Q .precedes i j
+  unfolding projectOf
+  before-same i j l = held .before i j (omega (arith, ranged .acts))
 
-    abbrev S : Starts
-    S = startsOf starts
+  abbrev order : Bool
+  order = orderKept (t .acts) (t .duration) (x .preds) starts
 
-    abbrev placed : Bool
-    placed = placesRight acts resource duration present preds starts
+  order-is : order ≡ true → (i j : ℕ) → Has Q i → Has Q j → Q .precedes i j ≡ true → endOf Q S i ≤ S j
+  unfolding orderKept afterAll
+  order-is e i j hi hj o =
+      let acts = t .acts in
+      let before = getD (x .preds) j 0 in
+      let all = every-at acts (λ k. afterAll acts (t .duration) (getD (x .preds) k 0) starts k) e j (has-acts j hj) in
+      leb-true (endOf Q S i) (S j)
+      (sym (ends-same i j (has-acts i hi))
+      ∙ implies-elim (has before i) (endsBy (t .duration) starts i j)
+      (every-at acts (λ k. endsBefore (t .duration) before starts k j) all i (has-acts i hi))
+      (before-same i j (has-acts j hj) ∙ o))
 
-    acts-most : acts ≤ most
-    acts-most = omega (arith, held .acts, acts-between p valid)
+  order-of : ((i j : ℕ) → Has Q i → Has Q j → Q .precedes i j ≡ true → endOf Q S i ≤ S j) → order ≡ true
+  unfolding orderKept afterAll
+  order-of f =
+      every-of (t .acts) (λ j. afterAll (t .acts) (t .duration) (getD (x .preds) j 0) starts j)
+      (λ j lj.
+      every-of (t .acts) (λ i. endsBefore (t .duration) (getD (x .preds) j 0) starts i j)
+      (λ i li.
+      implies-intro (has (getD (x .preds) j 0) i) (endsBy (t .duration) starts i j)
+      (λ y.
+      let o : precedes w i j ≡ true = sym (held .before i j (omega (arith, ranged .acts))) ∙ y in
+      let (mi, mj) = precedes-members w i j o in
+      ends-same i j li
+      ∙ le-leb (endOf Q S i) (S j)
+      (f i j (has-of p w i (omega (arith, acts-are t ranged)) mi) (has-of p w j (omega (arith, acts-are t ranged)) mj)
+      (sym (before-same i j lj) ∙ y)))))
 
-    marks-same : marksRight present starts ≡ isMarked w starts
-    unfolding marksRight isMarked
-    marks-same =
-        every-same places (λ i. markRight (has present i) (getD starts i 0))
-        (λ i. Bool·beq (eqb (S i) mark) (not (member i (activities w))))
-        (λ i l. ap (λ b. markRight b (getD starts i 0)) (held .order .members i))
+  -- Units.
 
-    -- The project's activities are those that are present.
-    present-has : (i : ℕ) → i < acts → has present i ≡ true → Has Q i
-    present-has i l h = has-of p w i (omega (arith, held .acts)) (sym (held .order .members i) ∙ h)
+  held-same : (tick r : ℕ) → r < t .resources
+      → heldAt (t .acts) (t .duration) (t .units) (x .present) starts tick r ≡ load Q S tick r
+  unfolding heldAt load projectOf
+  held-same tick r l =
+      sum-eq (t .acts)
+      (λ i. cond (runsAt (t .duration) (x .present) starts tick i) (getD (t .units) (mostResources * i + r) 0) 0)
+      (holds Q S tick r)
+      (λ i b.
+      let lasts = sym (duration-in t (ranged .sized) (ranged .acts) i b) in
+      let takes = sym (units-in t (ranged .sized) (ranged .acts) i b r l) in
+      λ k. cond (held .members i k && leb (S i) tick && ltb tick (S i + lasts k)) (takes k) 0)
+      ∙ ap (λ (n : ℕ). sumBelow n (holds Q S tick r)) (sym (acts-are t ranged))
 
-    has-acts : (i : ℕ) → Has Q i → i < acts
-    has-acts i h = omega (arith, held .acts, has-below p w i h)
+  room-same : (tick r : ℕ) → r < t .resources
+      → leb (heldAt (t .acts) (t .duration) (t .units) (x .present) starts tick r) (getD (t .capacity) r 0)
+      ≡ leb (load Q S tick r) (Q .capacity r)
+  unfolding projectOf
+  room-same tick r l = ap₂ leb (held-same tick r l) (sym (capacity-in t (ranged .sized) r l))
 
-    has-present : (i : ℕ) → Has Q i → has present i ≡ true
-    has-present i h = held .order .members i ∙ has-member p w i h
+  abbrev within : ℕ → Bool
+  within = withinAt (t .acts) (t .resources) (t .capacity) (t .duration) (t .units) (x .present) starts
 
-    precedes-same : (i j : ℕ) → i < acts → j < acts → has (getD preds j 0) i ≡ Q .precedes i j
-    unfolding projectOf
-    precedes-same i j l m = held .order .before i j (omega (arith, acts-most))
+  abbrev room : Bool
+  room = withinAll (t .acts) (t .resources) (t .capacity) (t .duration) (t .units) (x .present) starts
 
-    ends-same : (i j : ℕ) → i < acts → endsBy duration starts i j ≡ leb (endOf Q S i) (S j)
-    unfolding projectOf
-    ends-same i j l = ap (λ (d : ℕ). leb (getD starts i 0 + d) (getD starts j 0)) (held .durations i l)
+  on-plan : (r : ℕ) → r < Q .resources → r < t .resources
+  unfolding projectOf
+  on-plan r l = omega (arith, resources-are t (ranged .sized) (ranged .resources))
 
-    ends : (i j : ℕ) → i < acts → endsBy duration starts i j ≡ true → endOf Q S i ≤ S j
-    ends i j l e = leb-true (endOf Q S i) (S j) (sym (ends-same i j l) ∙ e)
+  in-plan : (r : ℕ) → r < t .resources → r < Q .resources
+  unfolding projectOf
+  in-plan r l = omega (arith, resources-are t (ranged .sized) (ranged .resources))
 
-    ends-of : (i j : ℕ) → i < acts → endOf Q S i ≤ S j → endsBy duration starts i j ≡ true
-    ends-of i j l h = ends-same i j l ∙ le-leb (endOf Q S i) (S j) h
+  room-is : room ≡ true → (tick r : ℕ) → r < Q .resources → load Q S tick r ≤ Q .capacity r
+  unfolding withinAll withinAt
+  room-is e tick r l =
+      starts-enough Q S r (Q .capacity r)
+      (λ j h.
+      leb-true (load Q S (S j) r) (Q .capacity r)
+      (sym (room-same (S j) r (on-plan r l))
+      ∙ every-at (t .resources) _ (every-at (t .acts) (λ k. within (S k)) e j (has-acts j h)) r (on-plan r l)))
+      tick
 
-    resource-same : (i : ℕ) → i < acts → resourceOf p i ≡ getD resource i 0
-    resource-same i l = sym (held .resources i l)
+  room-of : ((tick r : ℕ) → r < Q .resources → load Q S tick r ≤ Q .capacity r) → room ≡ true
+  unfolding withinAll withinAt
+  room-of f =
+      every-of (t .acts) (λ j. within (S j))
+      (λ j lj.
+      every-of (t .resources) _
+      (λ r l. room-same (S j) r l ∙ le-leb (load Q S (S j) r) (Q .capacity r) (f (S j) r (in-plan r l))))
 
-    -- Two that are on one resource.
-    two : ℕ → ℕ → Bool
-    two i j = not (eqb i j) && eqb (getD resource i 0) (getD resource j 0)
+  -- Both.
 
-    two-of : (i j : ℕ) → i < acts → j < acts → i ≢ j → resourceOf p i ≡ resourceOf p j → two i j ≡ true
-    unfolding two
-    two-of i j l m ne e =
-        both (ap not (ne-eqb i j ne)) (eq-eqb (getD resource i 0) (getD resource j 0) (sym (resource-same i l) ∙ e
-        ∙ resource-same j m))
+  keeps-is : (order && room) ≡ true → Feasible Q S
+  unfolding projectOf
+  keeps-is e =
+      record {
+        from-floor = λ i h y. zero-le;
+        as-begun = λ i h z. true-not-false refl z;
+        ordered = λ i j hi hj o. omega (arith, order-is (and-left order room e) i j hi hj o);
+        fits = room-is (and-right order room e);
+      }
 
-    two-is : (i j : ℕ) → i < acts → j < acts → two i j ≡ true → (i ≢ j) × (resourceOf p i ≡ resourceOf p j)
-    unfolding two
-    two-is i j l m e =
-        let differ = and-left (not (eqb i j)) (eqb (getD resource i 0) (getD resource j 0)) e in
-        let alike = and-right (not (eqb i j)) (eqb (getD resource i 0) (getD resource j 0)) e in (
-          eqb-false i j (not-true (eqb i j) differ),
-          resource-same i l ∙ eqb-true (getD resource i 0) (getD resource j 0) alike ∙ sym (resource-same j m),
-        )
+  keeps-of : Feasible Q S → (order && room) ≡ true
+  unfolding projectOf
+  keeps-of f = both (order-of (λ i j hi hj o. omega (arith, f .ordered i j hi hj o))) (room-of (f .fits))
 
-    -- The test of i at j, once both are present.
-    pair : ℕ → ℕ → Bool
-    pair i j = (has (getD preds j 0) i implies endsBy duration starts i j) && apart resource duration starts i j
-
-    pair-at : placed ≡ true → (i j : ℕ) → Has Q i → Has Q j → pair i j ≡ true
-    unfolding placesRight placeRight pair
-    pair-at e i j hi hj =
-        let all =
-        every-at acts (λ k. placeRight acts resource duration present (getD preds k 0) starts k) e j (has-acts j hj) in
-        let row =
-        implies-elim (has present j) (everyBelow acts λ k. agree resource duration present
-        (getD preds j 0) starts k j) all (has-present j hj) in
-        implies-elim (has present i) (pair i j)
-        (every-at acts (λ k. agree resource duration present (getD preds j 0) starts k j) row i (has-acts i hi))
-        (has-present i hi)
-
-    pair-of : ((i j : ℕ) → Has Q i → Has Q j → pair i j ≡ true) → placed ≡ true
-    unfolding placesRight placeRight pair
-    pair-of f =
-        every-of acts (λ k. placeRight acts resource duration present (getD preds k 0) starts k)
-        (λ j lj.
-        implies-intro (has present j) (everyBelow acts λ k. agree resource duration present (getD preds j 0) starts k j)
-        (λ hj.
-        every-of acts (λ k. agree resource duration present (getD preds j 0) starts k j)
-        (λ i li. implies-intro (has present i) (pair i j) (λ hi. f i j (present-has i li hi) (present-has j lj hj)))))
-
-    words : placed ≡ true → InWords Q (resourceOf p) S
-    unfolding pair two
-    words e =
-        record {
-          after =
-              λ i j hi hj o.
-              ends i j (has-acts i hi)
-              (implies-elim (has (getD preds j 0) i) (endsBy duration starts i j)
-              (and-left (has (getD preds j 0) i implies endsBy duration starts i j) (apart resource duration starts i j)
-              (pair-at e i j hi hj))
-              (precedes-same i j (has-acts i hi) (has-acts j hj) ∙ o));
-          apart =
-              λ i j hi hj ne d.
-              ⊎-elim (λ x. inl (ends i j (has-acts i hi) x)) (λ x. inr (ends j i (has-acts j hj) x))
-              (or-cases (endsBy duration starts i j) (endsBy duration starts j i)
-              (implies-elim (two i j) (endsBy duration starts i j || endsBy duration starts j i)
-              (and-right (has (getD preds j 0) i implies endsBy duration starts i j)
-              (apart resource duration starts i j)
-              (pair-at e i j hi hj))
-              (two-of i j (has-acts i hi) (has-acts j hj) ne d)));
-        }
-
-    tests : InWords Q (resourceOf p) S → placed ≡ true
-    unfolding pair two
-    tests f =
-        pair-of
-        (λ i j hi hj.
-        both
-        (implies-intro (has (getD preds j 0) i) (endsBy duration starts i j)
-        (λ b. ends-of i j (has-acts i hi) (f .after i j hi hj (sym (precedes-same i j (has-acts i hi) (has-acts j hj))
-        ∙ b))))
-        (implies-intro (two i j) (endsBy duration starts i j || endsBy duration starts j i)
-        (λ t.
-        let (ne, d) = two-is i j (has-acts i hi) (has-acts j hj) t in
-        or-of (endsBy duration starts i j) (endsBy duration starts j i)
-        (⊎-elim (λ x. inl (ends-of i j (has-acts i hi) x)) (λ x. inr (ends-of j i (has-acts j hj) x))
-        (f .apart i j hi hj ne d)))))
-
-    places-same : placed ≡ feasible Q S
-    places-same =
-        let meant = feasible-words p w S valid in
-        same-bool placed (feasible Q S) (λ e. meant .1 (words e)) (λ e. tests (meant .0 e))
-
-    pub session-same : isRight x starts ≡ isSession p w starts
-    unfolding isSession
-    session-same = ap₂ _&&_ marks-same places-same
+  pub session-same : isRight t x starts ≡ isSession p w starts
+  unfolding isSession
+  session-same =
+      and-assoc (marksRight (x .present) starts) order room
+      ∙ ap₂ _&&_ marks-same
+      (same-bool (order && room) (feasible Q S) (λ e. feasible-of Q S (keeps-is e))
+      (λ e. keeps-of (feasible-is Q S e)))

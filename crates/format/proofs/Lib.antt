@@ -5,8 +5,9 @@ pub mod Values
 pub mod Forms
 pub mod Readers
 pub mod Plans
+pub mod Units
 pub mod PlanLines
-pub mod Columns
+pub mod Tables
 pub mod Short
 pub mod Format
 pub mod Longest

@@ -6,54 +6,102 @@ use native.Mathlib.Omega.{arith}
 use borrow.Author.Tests.{ltb-true, eqb-true, ne-eqb}
 use lib.Dec.{ltb, eqb}
 use lib.ListN.{length}
-use Rattle.plan.specs.Limits.{mostActs, longestDuration, fewestChildren, mostChildren, isResourceCount, isActCount}
-use Rattle.plan.specs.Limits.{isDuration, isNodeCount, isChildCount}
-use Rattle.plan.specs.Plan.{Activity, Node, activity, seq, pll, xor, Plan, letterOf, valueOf, isLetter, nodeOf}
-use Rattle.plan.specs.Plan.{isActivity, isNode, isGroupOfOne, isPlan}
+use Rattle.plan.specs.Limits.{saysUnits, mostActs, longestDuration, fewestChildren, mostChildren, isEdition}
+use Rattle.plan.specs.Limits.{isResourceCount, isCapacity, isUnitCount, isActCount, isDuration, isNodeCount}
+use Rattle.plan.specs.Limits.{isChildCount}
+use Rattle.plan.specs.Plan.{Activity, Node, activity, seq, pll, xor, Plan, oneUnit, ownResource, letterOf, valueOf}
+use Rattle.plan.specs.Plan.{isLetter, nodeOf, areUnits, isActivity, isWithin, isNode, isGroupOfOne, isPlan}
 use Rattle.format.specs.Parse.{isRanged, isPlural}
-use Rattle.base.specs.Lists.{every}
-use Rattle.base.proofs.Bools.{by-bool, both, and-left, and-right}
+use Rattle.base.specs.Lists.{every, sameRow}
+use Rattle.base.proofs.Bools.{by-bool, both, and-left, and-right, cond-true, cond-false}
+use Rattle.base.proofs.Lists.{same-row}
 use Rattle.format.proofs.Tests.{between-facts}
 
 pub record Sound (p : Plan) : Type 0 where
-  pub resources : isResourceCount (p .resources) ≡ true
+  pub edition : isEdition (p .edition) ≡ true
+  pub resources : isResourceCount (length (p .capacities)) ≡ true
+  pub capacities : every (isCapacity (p .edition)) (p .capacities) ≡ true
   pub acts : isActCount (length (p .activities)) ≡ true
-  pub activities : every (isActivity (p .resources)) (p .activities) ≡ true
+  pub activities : every (isActivity (p .edition) (length (p .capacities))) (p .activities) ≡ true
+  pub within : every (λ a. isWithin (p .capacities) (a .units)) (p .activities) ≡ true
   pub nodeCount : isNodeCount (length (p .nodes)) ≡ true
   pub nodes : every (isNode (length (p .activities))) (p .nodes) ≡ true
 
-five :
-    (a b c d e : Bool) → (a && b && c && d && e) ≡ true
-    → (a ≡ true) × (b ≡ true) × (c ≡ true) × (d ≡ true) × (e ≡ true)
-five true true true true e t = (refl, refl, refl, refl, t)
-five true true true false e t = absurd (false≢true t)
-five true true false d e t = absurd (false≢true t)
-five true false c d e t = absurd (false≢true t)
-five false b c d e t = absurd (false≢true t)
+eight :
+    (a b c d e f g h : Bool) → (a && b && c && d && e && f && g && h) ≡ true
+    → (a ≡ true) × (b ≡ true) × (c ≡ true) × (d ≡ true) × (e ≡ true) × (f ≡ true) × (g ≡ true) × (h ≡ true)
+eight true true true true true true true h t = (refl, refl, refl, refl, refl, refl, refl, t)
+eight true true true true true true false h t = absurd (false≢true t)
+eight true true true true true false g h t = absurd (false≢true t)
+eight true true true true false f g h t = absurd (false≢true t)
+eight true true true false e f g h t = absurd (false≢true t)
+eight true true false d e f g h t = absurd (false≢true t)
+eight true false c d e f g h t = absurd (false≢true t)
+eight false b c d e f g h t = absurd (false≢true t)
 
 module _ (p : Plan) where
   pub plan-sound : isPlan p ≡ true → Sound p
   plan-sound t =
-      let (a, b, c, d, e) =
-      five
-      (isResourceCount (p .resources))
+      let (a, b, c, d, e, f, g, h) =
+      eight
+      (isEdition (p .edition))
+      (isResourceCount (length (p .capacities)))
+      (every (isCapacity (p .edition)) (p .capacities))
       (isActCount (length (p .activities)))
-      (every (isActivity (p .resources)) (p .activities))
+      (every (isActivity (p .edition) (length (p .capacities))) (p .activities))
+      (every (λ a. isWithin (p .capacities) (a .units)) (p .activities))
       (isNodeCount (length (p .nodes)))
       (every (isNode (length (p .activities))) (p .nodes))
       t in
-      record { resources = a; acts = b; activities = c; nodeCount = d; nodes = e }
+      record {
+        edition = a;
+        resources = b;
+        capacities = c;
+        acts = d;
+        activities = e;
+        within = f;
+        nodeCount = g;
+        nodes = h;
+      }
 
   pub sound-plan : Sound p → isPlan p ≡ true
-  sound-plan h = both (both (both (both (h .resources) (h .acts)) (h .activities)) (h .nodeCount)) (h .nodes)
+  sound-plan s =
+      let capacities = both (both (s .edition) (s .resources)) (s .capacities) in
+      let activities = both (both (both capacities (s .acts)) (s .activities)) (s .within) in
+      both (both activities (s .nodeCount)) (s .nodes)
 
-module _ (r : ℕ) (a : Activity) (e : isActivity r a ≡ true) where
-  pub resource-below : a .resource < r
-  resource-below = ltb-true (a .resource) r (and-left (ltb (a .resource) r) (isDuration (a .duration)) e)
-
+-- An activity in range: its duration, and its units by the plan's edition.
+module _ (edition resources : ℕ) (a : Activity) (e : isActivity edition resources a ≡ true) where
   pub duration-between : (1 ≤ a .duration) × (a .duration ≤ longestDuration)
   duration-between =
-      between-facts 1 longestDuration (a .duration) (and-right (ltb (a .resource) r) (isDuration (a .duration)) e)
+      between-facts 1 longestDuration (a .duration)
+      (and-left (isDuration (a .duration)) (areUnits edition resources (a .units)) e)
+
+  are-units : areUnits edition resources (a .units) ≡ true
+  are-units = and-right (isDuration (a .duration)) (areUnits edition resources (a .units)) e
+
+  module _ (says : saysUnits edition ≡ true) where
+    counts : (eqb (length (a .units)) resources && every (isUnitCount edition) (a .units)) ≡ true
+    counts = sym (cond-true _ _ says) ∙ are-units
+
+    pub units-count : length (a .units) ≡ resources
+    units-count = eqb-true (length (a .units)) resources (and-left _ (every (isUnitCount edition) (a .units)) counts)
+
+    pub units-ranged : every (isUnitCount edition) (a .units) ≡ true
+    units-ranged = and-right (eqb (length (a .units)) resources) _ counts
+
+  module _ (says : saysUnits edition ≡ false) where
+    abbrev own : ℕ
+    own = ownResource (a .units)
+
+    one : (ltb own resources && sameRow (a .units) (oneUnit resources own)) ≡ true
+    one = sym (cond-false _ _ says) ∙ are-units
+
+    pub own-below : own < resources
+    own-below = ltb-true own resources (and-left _ (sameRow (a .units) (oneUnit resources own)) one)
+
+    pub units-own : a .units ≡ oneUnit resources own
+    units-own = same-row (a .units) (oneUnit resources own) (and-right (ltb own resources) _ one)
 
 pub number-most : (n : ℕ) (m : Node) → n ≤ mostActs → isNode n m ≡ true → valueOf m ≤ mostChildren
 number-most n (activity i) h e = omega (arith, ltb-true i n e)

@@ -37,31 +37,36 @@ pub record Exact {A : Type 0} (reader : Reader A) (write : A → List ℕ) (Ok :
   pub wrote : (line : ℕ) (s : List ℕ) (a : A) (line′ : ℕ) (s′ : List ℕ) → reader line s ≡ read a line′ s′
       → (Ok a) × (s ≡ write a ++ s′)
 
+-- A test of what was read.
+module _ {A : Type 0} (passes : A → Bool) (refusal : ℕ → Refusal) (line : ℕ) where
+  abbrev judged : LinesRead A → LinesRead A
+  judged o =
+      elim o [
+        | read a line′ s′ ↦ choose (passes a) (read a line′ s′) (stop (refusal line))
+        | stop r ↦ stop r
+      ]
+
+  judged-read : {o : LinesRead A} (a : A) (line′ : ℕ) (s′ : List ℕ) → o ≡ read a line′ s′ → passes a ≡ true
+      → judged o ≡ read a line′ s′
+  judged-read a line′ s′ e pass = ap judged e ∙ elim-true _ _ _ pass
+
+  -- What it takes was read, and passes.
+  passed : {C : Type 0} (o : LinesRead A) (a : A) (line′ : ℕ) (s′ : List ℕ) → judged o ≡ read a line′ s′
+      → (o ≡ read a line′ s′ → passes a ≡ true → C) → C
+  passed (stop r) a line′ s′ e then = absurd (stopped e)
+  passed (read b line₁ s₁) a line′ s′ e then =
+      by-bool (passes b)
+      (λ v.
+      let same : read b line₁ s₁ ≡ read a line′ s′ = sym (elim-true _ _ _ v) ∙ e in
+      let eb : b ≡ a = cc in
+      then same (rw eb at v))
+      (λ v. absurd (stopped (sym (elim-false _ _ _ v) ∙ e)))
+
 -- A line and a test of what it says: it takes what passes.
 module _ {A : Type 0} {reader : Reader A} {write : A → List ℕ} {Ok Good : A → Type 0} (passes : A → Bool)
     (refusal : ℕ → Refusal) (exact : Exact reader write Ok) (meets : (a : A) → Good a → Ok a × (passes a ≡ true))
     (good : (a : A) → Ok a → passes a ≡ true → Good a)
   where
-    abbrev judged : ℕ → LinesRead A → LinesRead A
-    judged line o =
-        elim o [
-          | read a line′ s′ ↦ choose (passes a) (read a line′ s′) (stop (refusal line))
-          | stop r ↦ stop r
-        ]
-
-    passed : (line : ℕ) (s : List ℕ) (a : A) (line′ : ℕ) (s′ : List ℕ) (o : LinesRead A) → reader line s ≡ o
-        → judged line o ≡ read a line′ s′
-        → Good a × (s ≡ write a ++ s′)
-    passed line s a line′ s′ (stop r) q e = absurd (stopped e)
-    passed line s a line′ s′ (read b line₁ s₁) q e =
-        by-bool (passes b)
-        (λ v.
-        let same : read b line₁ s₁ ≡ read a line′ s′ = sym (elim-true _ _ _ v) ∙ e in
-        let eb : b ≡ a = cc in
-        let (ok, bytes) = exact .wrote line s a line′ s′ (q ∙ same) in
-        (good a ok (rw eb at v), bytes))
-        (λ v. absurd (stopped (sym (elim-false _ _ _ v) ∙ e)))
-
     pub tested-exact : Exact (tested passes refusal reader) write Good
     unfolding tested
     tested-exact =
@@ -70,55 +75,58 @@ module _ {A : Type 0} {reader : Reader A} {write : A → List ℕ} {Ok Good : A 
               λ a line s k.
               let (ok, pass) = meets a k in
               let (line′, here) = exact .reads a line s ok in
-              (line′, ap (judged line) here ∙ elim-true _ _ _ pass);
-          wrote = λ line s a line′ s′ e. passed line s a line′ s′ (reader line s) refl e;
+              (line′, judged-read passes refusal line a line′ s here pass);
+          wrote =
+              λ line s a line′ s′ e.
+              passed passes refusal line (reader line s) a line′ s′ e
+              (λ here pass. let (ok, bytes) = exact .wrote line s a line′ s′ here in (good a ok pass, bytes));
         }
 
--- A line by its form, where its values say one thing and that thing has those values.
-module _ {A : Type 0} (form : List ℕ) (make : List ℕ → A) where
-  abbrev answered : ℕ → Option Fields → LinesRead A
-  answered line o =
-      elim o [ none ↦ stop (Form line) | some f ↦ read (make (f .values)) (line + 1) (f .rest) ]
+-- A line by its form and the test of its range: what passes has values that fit the form and say it again, and
+-- values that say what passes are those of what they say.
+module _ {A : Type 0} (form : List ℕ) (make : List ℕ → A) (values : A → List ℕ) (ok : A → Bool)
+    (formed : isForm form ≡ true)
+    (fits : (a : A) → ok a ≡ true → fitting form (values a) ≡ true)
+    (same : (a : A) → ok a ≡ true → make (values a) ≡ a)
+    (back : (vs : List ℕ) → fitting form vs ≡ true → ok (make vs) ≡ true → values (make vs) ≡ vs)
+  where
+    abbrev answered : ℕ → Option Fields → LinesRead A
+    answered line o =
+        elim o [ none ↦ stop (Form line) | some f ↦ read (make (f .values)) (line + 1) (f .rest) ]
 
-  answer : (line : ℕ) (s : List ℕ) → aLine form make line s ≡ answered line (matched form s)
-  unfolding aLine
-  answer line s = refl
+    answer : (line : ℕ) (s : List ℕ) → aLine form make line s ≡ answered line (matched form s)
+    unfolding aLine
+    answer line s = refl
 
-  module _ (values : A → List ℕ)
-      (formed : isForm form ≡ true)
-      (same : (a : A) → make (values a) ≡ a)
-      (back : (vs : List ℕ) → fitting form vs ≡ true → values (make vs) ≡ vs)
-    where
-      abbrev Formed : A → Type 0
-      Formed a = fitting form (values a) ≡ true
+    says : (line : ℕ) (s : List ℕ) (a : A) (line′ : ℕ) (s′ : List ℕ) (o : Option Fields) → matched form s ≡ o
+        → answered line o ≡ read a line′ s′ → ok a ≡ true
+        → s ≡ filled form (values a) ++ s′
+    says line s a line′ s′ none q e pass = absurd (stopped e)
+    says line s a line′ s′ (some f) q e pass =
+        let m : Filled form s f = filled-matched form s f q in
+        let ea : make (f .values) ≡ a = cc in
+        let es : f .rest ≡ s′ = cc in
+        let ev : f .values ≡ values a = sym (back (f .values) (m .fits) (ap ok ea ∙ pass)) ∙ ap values ea in
+        m .bytes ∙ ap₂ (λ vs t. filled form vs ++ t) ev es
 
-      says : (line : ℕ) (s : List ℕ) (a : A) (line′ : ℕ) (s′ : List ℕ) (o : Option Fields) → matched form s ≡ o
-          → answered line o ≡ read a line′ s′
-          → Formed a × (s ≡ filled form (values a) ++ s′)
-      says line s a line′ s′ none q e = absurd (stopped e)
-      says line s a line′ s′ (some f) q e =
-          let m : Filled form s f = filled-matched form s f q in
-          let ea : make (f .values) ≡ a = cc in
-          let es : f .rest ≡ s′ = cc in
-          let ev : f .values ≡ values a = sym (back (f .values) (m .fits)) ∙ ap values ea in
-          (ap (fitting form) (sym ev) ∙ m .fits, m .bytes ∙ ap₂ (λ vs t. filled form vs ++ t) ev es)
-
-      form-exact : Exact (aLine form make) (λ a. filled form (values a)) Formed
-      form-exact =
-          record {
-            reads =
-                λ a line s k. (
-                  line + 1,
-                  answer line (filled form (values a) ++ s)
-                      ∙ rw (matched-filled form (values a) s formed k) (rw (same a)),
-                );
-            wrote = λ line s a line′ s′ e. says line s a line′ s′ (matched form s) refl (sym (answer line s) ∙ e);
-          }
-
-      -- And with its values in range.
-      pub line-exact : (ok : A → Bool) → ((a : A) → ok a ≡ true → Formed a)
-          → Exact (tested ok Range (aLine form make)) (λ a. filled form (values a)) (λ a. ok a ≡ true)
-      line-exact ok fits = tested-exact ok Range form-exact (λ a k. (fits a k, k)) (λ a formed k. k)
+    pub line-exact : Exact (tested ok Range (aLine form make)) (λ a. filled form (values a)) (λ a. ok a ≡ true)
+    unfolding tested
+    line-exact =
+        record {
+          reads =
+              λ a line s k. (
+                line + 1,
+                judged-read ok Range line a (line + 1) s
+                    (answer line (filled form (values a) ++ s)
+                    ∙ rw (matched-filled form (values a) s formed (fits a k)) (rw (same a k)))
+                    k,
+              );
+          wrote =
+              λ line s a line′ s′ e.
+              passed ok Range line (aLine form make line s) a line′ s′ e
+              (λ here pass.
+              (pass, says line s a line′ s′ (matched form s) refl (sym (answer line s) ∙ here) pass));
+        }
 
 -- So many things, each `ok`, and their lines one behind the other.
 abbrev pub Count : {A : Type 0} → (A → Bool) → ℕ → List A → Type 0

@@ -1,24 +1,28 @@
 -- The text of a plan is no longer than `longest`: a line is longest where its values are greatest.
-use Prim.Native.Nat.{ℕ, zero, suc, _-_, _*_, _/_, _≤_, suc-le-suc}
+use Prim.Native.Nat.{ℕ, zero, suc, _+_, _*_, _/_, _≤_, suc-le-suc}
 use mathlib.Core.Bool.{Bool, true}
 use mathlib.Core.List.{List, [], _∷_}
 use mathlib.Core.Path.{_≡_, refl}
 use native.Mathlib.Nat.{suc-mul}
 use native.Mathlib.Omega.{arith}
+use borrow.Author.Tests.{leb-true}
 use lib.ListN.{length, getD, drop, length-append}
-use Rattle.plan.specs.Limits.{between, longest, mostDigits, mostResources, mostActs, longestDuration, mostNodes}
-use Rattle.plan.specs.Limits.{mostChildren, editionForm, resourcesForm, actsForm, actForm, nodesForm, nodeForm}
-use Rattle.plan.specs.Plan.{Activity, Node, Plan, letterOf, valueOf, isActivity, isNode, isPlan}
+use Rattle.plan.specs.Limits.{bytes, between, longest, lastEdition, saysUnits, mostUnits, mostDigits, mostResources}
+use Rattle.plan.specs.Limits.{mostActs, longestDuration, mostNodes, mostChildren, isCapacity, isUnitCount, editionForm}
+use Rattle.plan.specs.Limits.{resourcesForm, capacityForm, actsForm, countsForm, nodesForm, nodeForm}
+use Rattle.plan.specs.Plan.{Activity, Node, Plan, ownResource, letterOf, valueOf, isActivity, isNode, isPlan}
 use Rattle.base.specs.Lists.{every}
 use Rattle.format.specs.Lines.{numeral, filled}
 use Rattle.format.specs.Text.{text}
-use Rattle.base.proofs.Bools.{and-left, and-right}
+use Rattle.base.proofs.Bools.{by-bool, and-left, and-right}
 use Rattle.format.proofs.Tests.{between-facts}
 use Rattle.format.proofs.Laws.{Kind, value, letter, literal, kind, filled-value, filled-letter, filled-literal}
 use Rattle.format.proofs.Values.{by-size, written-one, written-more, written-some}
 use Rattle.format.proofs.Readers.{Joined}
-use Rattle.format.proofs.Plans.{Sound, plan-sound, resource-below, duration-between, number-most}
-use Rattle.format.proofs.PlanLines.{actLine, nodeLine, act-joined, node-joined}
+use Rattle.format.proofs.Plans.{Sound, plan-sound, duration-between, units-ranged, own-below, number-most}
+use Rattle.format.proofs.Units.{countsEnd, most-units}
+use Rattle.format.proofs.PlanLines.{capacityLine, actLine, nodeLine, capacityText, capacity-joined, act-joined}
+use Rattle.format.proofs.PlanLines.{node-joined}
 
 -- A greater number has no fewer digits.
 pub written-longer : (k n m : ℕ) → n ≤ m → length (numeral k n) ≤ length (numeral k m)
@@ -68,38 +72,99 @@ unfolding filled
 filled-longer [] vs ws h = omega arith
 filled-longer (b ∷ form) vs ws h = longer (kind b) form (filled-longer form) vs ws h
 
--- The bytes of the longest line of an activity and of a node.
+-- The bytes of the longest line of a capacity, an activity and a node.
+abbrev capacityWidth : ℕ
+capacityWidth = 7
+
 abbrev actWidth : ℕ
-actWidth = 13
+actWidth = 58
 
 abbrev nodeWidth : ℕ
 nodeWidth = 10
 
--- The longest line of each form.
+-- The longest line of each form that has a number of values of its own, and the longest count of units.
 record Widths : Type 0 where
-  edition : length (filled editionForm (1 ∷ [])) ≡ 7
+  edition : length (filled editionForm (lastEdition ∷ [])) ≡ 7
   resources : length (filled resourcesForm (mostResources ∷ [])) ≡ 7
+  capacity : length (filled capacityForm (mostUnits 2 ∷ [])) ≡ capacityWidth
   acts : length (filled actsForm (mostActs ∷ [])) ≡ 8
-  act : length (filled actForm ((mostResources - 1) ∷ longestDuration ∷ [])) ≡ actWidth
+  act : length (filled (bytes "act=#,#\n") (mostResources ∷ longestDuration ∷ [])) ≡ 13
+  duration : length (numeral mostDigits longestDuration) ≡ 5
+  count : length (numeral mostDigits (mostUnits 2)) ≡ 2
   nodes : length (filled nodesForm (mostNodes ∷ [])) ≡ 9
   node : (b : ℕ) → length (filled nodeForm (b ∷ mostChildren ∷ [])) ≡ nodeWidth
 
 widths : Widths
 unfolding filled numeral
-widths = record { edition = refl; resources = refl; acts = refl; act = refl; nodes = refl; node = λ b. refl }
+widths =
+    record {
+      edition = refl;
+      resources = refl;
+      capacity = refl;
+      acts = refl;
+      act = refl;
+      duration = refl;
+      count = refl;
+      nodes = refl;
+      node = λ b. refl;
+    }
 
 number-short : (form : List ℕ) (high n : ℕ) → between 1 high n ≡ true
     → length (filled form (n ∷ [])) ≤ length (filled form (high ∷ []))
 number-short form high n e = filled-longer form (n ∷ []) (high ∷ []) (between-facts 1 high n e .1, tt)
 
-act-short : (r : ℕ) → r ≤ mostResources → (a : Activity) → isActivity r a ≡ true → length (actLine a) ≤ actWidth
-act-short r h a e =
-    omega (
-      arith,
-      widths .act,
-      filled-longer actForm (a .resource ∷ a .duration ∷ []) ((mostResources - 1) ∷ longestDuration ∷ [])
-          (omega (arith, resource-below r a e), (duration-between r a e .1, tt)),
+capacity-short : (edition b : ℕ) → isCapacity edition b ≡ true → length (capacityLine b) ≤ capacityWidth
+capacity-short edition b e =
+    let fits : b ≤ mostUnits 2 = omega (arith, between-facts 1 (mostUnits edition) b e, most-units edition) in
+    omega (arith, widths .capacity, filled-longer capacityForm (b ∷ []) (mostUnits 2 ∷ []) (fits, tt))
+
+-- An activity's line: a resource and a duration, or a duration and counts of units.
+first-unit : (edition : ℕ) (us : List ℕ) → every (isUnitCount edition) us ≡ true
+    → (getD us 0 0 ≤ mostUnits 2) × (every (isUnitCount edition) (drop 1 us) ≡ true)
+first-unit edition [] e = (omega arith, refl)
+first-unit edition (u ∷ us) e =
+    let rest : Bool = every (isUnitCount edition) us in (
+      omega (arith, leb-true u (mostUnits edition) (and-left (isUnitCount edition u) rest e), most-units edition),
+      and-right (isUnitCount edition u) rest e,
     )
+
+counts-short : (edition n : ℕ) (us : List ℕ) → every (isUnitCount edition) us ≡ true
+    → length (filled (countsEnd n) us) ≤ n * 3 + 1
+unfolding filled countsForm
+counts-short edition zero us e = omega arith
+counts-short edition (suc n) us e =
+    let (most, others) = first-unit edition us e in
+    simp (length-append, suc-mul)
+    (omega (
+      arith,
+      widths .count,
+      written-longer mostDigits (getD us 0 0) (mostUnits 2) most,
+      counts-short edition n (drop 1 us) others,
+    ))
+
+module _ (edition r : ℕ) (h : r ≤ mostResources) (a : Activity) (e : isActivity edition r a ≡ true) where
+  act-short : length (actLine edition r a) ≤ actWidth
+  unfolding filled
+  act-short =
+      by-bool (saysUnits edition)
+      (λ y.
+      rw y
+      (simp length-append
+      (omega (
+        arith,
+        widths .duration,
+        written-longer mostDigits (a .duration) longestDuration (duration-between edition r a e .1),
+        counts-short edition r (a .units) (units-ranged edition r a e y),
+      ))))
+      (λ n.
+      rw n
+      (omega (
+        arith,
+        widths .act,
+        filled-longer (bytes "act=#,#\n") (ownResource (a .units) ∷ a .duration ∷ [])
+            (mostResources ∷ longestDuration ∷ [])
+            (omega (arith, own-below edition r a e n), (duration-between edition r a e .1, tt)),
+      )))
 
 node-short : (n : ℕ) → n ≤ mostActs → (m : Node) → isNode n m ≡ true → length (nodeLine m) ≤ nodeWidth
 node-short n h m e =
@@ -114,30 +179,42 @@ node-short n h m e =
 module _ {A : Type 0} {write : A → List ℕ} {writes : List A → List ℕ} (joined : Joined write writes)
     (ok : A → Bool) (most : ℕ) (fits : (a : A) → ok a ≡ true → length (write a) ≤ most)
   where
-    lines-short : (xs : List A) → every ok xs ≡ true → length (writes xs) ≤ length xs * most
+    pub lines-short : (xs : List A) → every ok xs ≡ true → length (writes xs) ≤ length xs * most
     lines-short [] e = rw (joined .nil) (omega arith)
     lines-short (x ∷ xs) e =
         rw (joined .cons x xs, suc-mul)
         (simp length-append
         (omega (arith, fits x (and-left (ok x) (every ok xs) e), lines-short xs (and-right (ok x) (every ok xs) e))))
 
+capacities-short : (edition : ℕ) (bs : List ℕ) → every (isCapacity edition) bs ≡ true
+    → length (capacityText edition bs) ≤ length bs * capacityWidth
+capacities-short edition bs e =
+    by-bool (saysUnits edition)
+    (λ y.
+    lines-short (capacity-joined edition y) (isCapacity edition) capacityWidth (capacity-short edition) bs e)
+    (λ n. rw n (omega arith))
+
 module _ (p : Plan) (ok : isPlan p ≡ true) where
   pub text-short : length (text p) ≤ longest
   unfolding text
   text-short =
       let sound : Sound p = plan-sound p ok in
-      let resources : p .resources ≤ mostResources =
-      between-facts 1 mostResources (p .resources) (sound .resources) .1 in
+      let resources : length (p .capacities) ≤ mostResources =
+      between-facts 1 mostResources (length (p .capacities)) (sound .resources) .1 in
       let acts : length (p .activities) ≤ mostActs =
       between-facts 1 mostActs (length (p .activities)) (sound .acts) .1 in
       simp length-append
       (omega (
         arith,
         widths,
-        number-short resourcesForm mostResources (p .resources) (sound .resources),
+        number-short editionForm lastEdition (p .edition) (sound .edition),
+        number-short resourcesForm mostResources (length (p .capacities)) (sound .resources),
+        capacities-short (p .edition) (p .capacities) (sound .capacities),
         number-short actsForm mostActs (length (p .activities)) (sound .acts),
-        lines-short act-joined (isActivity (p .resources)) actWidth (act-short (p .resources) resources) (p .activities)
-            (sound .activities),
+        lines-short (act-joined (p .edition) (length (p .capacities)))
+            (isActivity (p .edition) (length (p .capacities))) actWidth
+            (act-short (p .edition) (length (p .capacities)) resources)
+            (p .activities) (sound .activities),
         number-short nodesForm mostNodes (length (p .nodes)) (sound .nodeCount),
         between-facts 1 mostNodes (length (p .nodes)) (sound .nodeCount),
         lines-short node-joined (isNode (length (p .activities))) nodeWidth (node-short (length (p .activities)) acts)
@@ -145,5 +222,5 @@ module _ (p : Plan) (ok : isPlan p ≡ true) where
       ))
 
   pub text-some : 1 ≤ length (text p)
-  unfolding text
-  text-some = simp length-append (omega (arith, widths .edition))
+  unfolding text filled
+  text-some = simp length-append (omega arith)

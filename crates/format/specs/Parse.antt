@@ -1,16 +1,17 @@
 -- The plan that a text holds. Lines are taken one by one: refusal 2 where a line has not its form, then 3 where one
--- of its values is out of range, then 10 where it is a group of one.
+-- of its values is out of range, then 10 where it is a group of one, then 11 where a count of units is above its
+-- resource's capacity.
 use Prim.Native.Nat.{ℕ, zero, suc, _+_}
 use mathlib.Core.Bool.{Bool, true, false, not, _||_}
 use mathlib.Core.List.{List, [], _∷_}
 use mathlib.Core.Option.{none, some}
 use lib.Dec.{ltb, eqb}
-use lib.ListN.{length, getD}
-use Rattle.plan.specs.Limits.{longest, isEdition, isResourceCount, isActCount, isNodeCount, editionForm}
-use Rattle.plan.specs.Limits.{resourcesForm, actsForm, actForm, nodesForm, nodeForm}
-use Rattle.plan.specs.Plan.{Activity, Node, Plan, nodeOf, isActivity, isNode, isGroupOfOne}
+use lib.ListN.{length, getD, replicate}
+use Rattle.plan.specs.Limits.{longest, saysUnits, isEdition, isResourceCount, isCapacity, isActCount, isNodeCount}
+use Rattle.plan.specs.Limits.{editionForm, resourcesForm, capacityForm, actsForm, actForm, nodesForm, nodeForm}
+use Rattle.plan.specs.Plan.{Activity, Node, Plan, activityOf, nodeOf, isActivity, isWithin, isNode, isGroupOfOne}
 use Rattle.plan.specs.declared.Refusal.{Refusal}
-use Rattle.plan.specs.declared.Refusal.the-variants.{Length, Form, Range, GroupOfOne}
+use Rattle.plan.specs.declared.Refusal.the-variants.{Length, Form, Range, GroupOfOne, OverCapacity}
 use Rattle.format.specs.Lines.{matched}
 
 -- What reading some lines gives: what they say, the number of the next line and the bytes from there on; or the
@@ -60,11 +61,21 @@ number vs = getD vs 0 0
 abbrev pub aCount : List ℕ → (ℕ → Bool) → Reader ℕ
 aCount form fits = tested fits Range (aLine form number)
 
-abbrev pub activity-of : List ℕ → Activity
-activity-of vs = record { resource = getD vs 0 0; duration = getD vs 1 0 }
+-- The capacities of so many resources.
+unfoldable pub theCapacities : ℕ → ℕ → Reader (List ℕ)
+theCapacities edition resources =
+    elim (saysUnits edition) [
+      | true ↦ theLines resources (aCount capacityForm (isCapacity edition))
+      | false ↦ return (replicate resources 1)
+    ]
 
-abbrev pub anActivity : ℕ → Reader Activity
-anActivity resources = tested (isActivity resources) Range (aLine actForm activity-of)
+-- Its counts of units are within their ranges, and then within the capacities.
+abbrev pub anActivity : ℕ → List ℕ → Reader Activity
+anActivity edition capacities =
+    let resources : ℕ = length capacities in
+    tested (λ a. isWithin capacities (a .units)) OverCapacity
+    (tested (isActivity edition resources) Range
+    (aLine (actForm edition resources) (activityOf edition resources)))
 
 abbrev pub node-of : List ℕ → Node
 node-of vs = nodeOf (getD vs 0 0) (getD vs 1 0)
@@ -83,12 +94,13 @@ unfoldable pub planLines : Reader Plan
 planLines = do
   e ← aCount editionForm isEdition
   r ← aCount resourcesForm isResourceCount
+  bs ← theCapacities e r
   n ← aCount actsForm isActCount
-  acts ← theLines n (anActivity r)
+  acts ← theLines n (anActivity e bs)
   m ← aCount nodesForm isNodeCount
   nodes ← theLines m (aNode n)
   u ← theEnd
-  return (record { resources = r; activities = acts; nodes = nodes })
+  return (record { edition = e; capacities = bs; activities = acts; nodes = nodes })
 
 pub data Result : Type 0 where
   holds : Plan → Result

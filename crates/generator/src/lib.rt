@@ -1,5 +1,5 @@
-// Small valid plan files, each made of a seed: one to six activities, durations that are short or those of soak tests,
-// and a term of few variants.
+// Small valid plan files of both editions, each made of a seed: one to six activities, durations that are short or
+// those of soak tests, resources of one unit or more, and a term of few variants.
 ghost use Prim.Native.Nat.{_≤_};
 ghost use Rattle.generator.specs.Text.{Counts};
 
@@ -46,13 +46,63 @@ fn soaked(duration: u8, seed: u64, acts: u8) -> u32 {
     if duration == 1 { 10000 } else { 20000 }
 }
 
+// Two plans of three are of edition 2.
+fn is_second(seed: u64) -> bool {
+    seed / 2 % 3 != 0
+}
+
+// The units that a resource has in edition 2: few as a rule.
+fn capacity(seed: u64, resource: u8) -> u8 {
+    let state = drawn(drawn(std::num::wrapping_add_u64(seed, resource as u64)));
+    if below(state, 8) == 0 {
+        return 15;
+    }
+    below(state >> 8, 3) + 1
+}
+
+// The units that an activity holds of a resource: some of most resources where these are few, of few where they are
+// many.
+fn units(state: u64, res: u8, most: u8) -> u8 {
+    let idle = if res < 4 { 1 } else { 3 };
+    if below(state >> 8, 4) < idle {
+        return 0;
+    }
+    std::num::wrapping_add_u8(below(state, most), 1)
+}
+
+fn capacities(out: &mut [u8], start: usize, seed: u64, res: u8) -> usize {
+    let mut at = start;
+    for r in 0..res {
+        at = text::line(out, at, b"cap=", capacity(seed, r) as u32);
+    }
+    at
+}
+
+// The counts of an activity in edition 2, one for each resource.
+fn counts(out: &mut [u8], start: usize, seed: u64, first: u64, res: u8) -> usize {
+    let mut at = start;
+    let mut state = first;
+    for r in 0..res {
+        state = drawn(state);
+        at = text::value(out, at, b",", units(state, res, capacity(seed, r)) as u32);
+    }
+    text::put(out, at, b'\n')
+}
+
+fn activity(out: &mut [u8], start: usize, seed: u64, state: u64, duration: u32, res: u8) -> usize {
+    if is_second(seed) {
+        let at = text::value(out, start, b"act=", duration);
+        return counts(out, at, seed, state, res);
+    }
+    text::activity(out, start, below(state, res), duration)
+}
+
 fn activities(out: &mut [u8], start: usize, seed: u64, acts: u8, res: u8) -> usize {
     let mut at = start;
     let mut state = seed;
     for i in 0..acts {
-        let resource = below(state, res);
         let short = duration(state >> 6, seed >> 12, acts);
-        at = text::activity(out, at, resource, soaked(short, seed, acts));
+        at = activity(out, at, seed, state, soaked(short, seed, acts), res);
         state = drawn(state);
     }
     at
@@ -68,6 +118,17 @@ fn nodes(out: &mut [u8], start: usize, t: Term) -> usize
     at
 }
 
+// The edition and the resources.
+fn head(out: &mut [u8], seed: u64, res: u8) -> usize {
+    let edition = if is_second(seed) { 2 } else { 1 };
+    let at = text::line(out, 0, b"plan=", edition);
+    let end = text::line(out, at, b"res=", res as u32);
+    if is_second(seed) {
+        return capacities(out, end, seed, res);
+    }
+    end
+}
+
 // Writes the plan of a seed, and returns its length. What does not fit the area is left out; 1024 bytes are enough.
 pub fn generate(seed: u64, out: &mut [u8]) -> usize
     ensures { λ r. ⌜ Counts r (now (out .exit)) ⌝ }
@@ -77,8 +138,7 @@ pub fn generate(seed: u64, out: &mut [u8]) -> usize
     let third = drawn(second);
     let res = resources(first);
     let acts = below(second, 6) + 1;
-    let mut at = text::line(out, 0, b"plan=", 1);
-    at = text::line(out, at, b"res=", res as u32);
+    let mut at = head(out, third, res);
     at = text::line(out, at, b"acts=", acts as u32);
     at = activities(out, at, third, acts, res);
     let apart = drawn(third / 2 + 1);

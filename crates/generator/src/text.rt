@@ -44,17 +44,22 @@ fn number(out: &mut [u8], start: usize, n: u32) -> usize {
 }
 
 // A key and its value.
+pub fn value(out: &mut [u8], start: usize, key: &[u8], n: u32) -> usize {
+    let at = word(out, start, key);
+    number(out, at, n)
+}
+
+// A key, its value and the end of the line.
 pub fn line(out: &mut [u8], start: usize, key: &[u8], n: u32) -> usize
     ensures { λ r. ⌜ Counts r (now (out .exit)) ⌝ }
 {
-    let at = word(out, start, key);
-    let end = number(out, at, n);
+    let end = value(out, start, key, n);
     put(out, end, b'\n')
 }
 
+// The line of an activity in edition 1.
 pub fn activity(out: &mut [u8], start: usize, resource: u8, duration: u32) -> usize {
-    let at = word(out, start, b"act=");
-    let comma = number(out, at, resource as u32);
+    let comma = value(out, start, b"act=", resource as u32);
     line(out, comma, b",", duration)
 }
 

@@ -36,7 +36,7 @@ module _ (s : List ℕ) (v : ℕ) (row : List ℕ) (p : Plan) (t : Term) (e : ju
   test-means =
       let valid = accepted-valid s p t e .0 in
       let inside = variant-below p t v (record { valid = valid; below = h }) in
-      session-means p (variantAt t v) (valid .ranges) inside row
+      session-means p (variantAt t v) inside row
 
   pub check-means : (checkOf s v row ≡ Checked true) ↔ Session p (variantAt t v) row
   check-means =

@@ -24,7 +24,8 @@ fn check_variant(campaign: Campaign, v: u32, timetable: Timetable) -> bool
         → r ≡ isSession (planOf (campaign .tables)) (variantAt t v) (timetable .starts)) ⌝ }
 {
     let starts = timetable.starts;
-    feasibility::is_session(precedence::tabled(campaign, v), &starts)
+    let tables = campaign.tables;
+    feasibility::is_session(tables, precedence::tabled(campaign, v), &starts)
 }
 
 // CHECK: yes exactly if the timetable is a feasible session of variant v.

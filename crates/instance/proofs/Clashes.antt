@@ -1,27 +1,26 @@
 -- Which two can run together, and in which components no two can.
 use Prim.Native.Nat.{ℕ, _+_, _^_, _≤_, _<_}
 use native.Mathlib.Decide.{ℕ-discrete, decLt}
-use native.Mathlib.Nat.{lt-of-le-of-lt}
 use native.Mathlib.Numerals.{add-one}
 use native.Mathlib.Omega.{arith}
 use mathlib.Core.Bool.{Bool, true, false, not, _&&_, _||_, or-true}
 use mathlib.Core.List.{List}
 use mathlib.Core.Logic.{_≢_, by-cases}
 use mathlib.Core.Path.{_≡_, refl, sym, ap, ap₂, _∙_, subst}
-use lib.Bits.{bitAnd, bitOr, bitXor, and-le-l, xor-lt}
+use lib.Bits.{bitAnd, bitOr, bitXor}
 use lib.Dec.{leb, ltb, eqb}
 use borrow.Author.Tests.{lt-ltb, ltb-true, le-leb, lt-leb, eq-eqb, ne-eqb, eqb-false, not-true}
 use Rattle.base.specs.Below.{everyBelow, _implies_}
 use Rattle.base.proofs.Below.{every-at, every-of, implies-intro, implies-elim}
 use Rattle.base.proofs.Bools.{by-bool, true-not-false, same-bool, both, and-left, and-right}
-use Rattle.sets.proofs.Laws.{has-none, has-single, has-with, has-minus, has-some}
+use Rattle.sets.proofs.Laws.{has-none, has-single, has-with, has-minus, has-some, minus-low}
 use Rattle.sets.proofs.Members.{lowest-has, after-less, after-has, rest-last}
 use Rattle.sets.specs.Lowest.{lowestOf, afterLowest}
 use Rattle.sets.specs.Sets.{most, has}
 use Rattle.instance.specs.Table.{componentAt, clashAt, unitsAt, capacityAt, actsOf, resourcesOf, projectIn}
 use Rattle.instance.specs.Instance.{ownOf, fitTogether, isTight}
 use Rattle.instance.specs.Steps.{Passing, IsClash, Grouped, Apart, AllClash}
-use Rattle.instance.proofs.Components.{component-joint}
+use Rattle.scan.proofs.Components.{component-joint}
 
 -- ---- two that can run together
 
@@ -91,9 +90,6 @@ swapped true true false = refl
 swapped true false true = refl
 swapped true false false = refl
 swapped false b c = refl
-
-minus-low : (a b : ℕ) → a < 2 ^ most → bitXor a (bitAnd a b) < 2 ^ most
-minus-low a b h = xor-lt most a (bitAnd a b) h (lt-of-le-of-lt (and-le-l a b) h)
 
 pub clash-is : (t : List ℕ) (i set one r : ℕ) → Passing (actsOf t) (λ k. not (fitTogether t i k)) set → one ≡ 2 ^ i
     → r ≡ bitXor set (bitAnd set one) → IsClash t i r

@@ -1,5 +1,6 @@
 -- What the proofs of the table share.
 pub mod Fill
+pub mod Stores
 pub mod Components
 pub mod Merging
 pub mod Links

@@ -3,12 +3,11 @@ use Prim.Native.Nat.{ℕ, _+_, _^_, _≤_, _<_}
 use native.Mathlib.Nat.{lt-of-le-of-lt}
 use native.Mathlib.Decide.{ℕ-discrete, decLt}
 use native.Mathlib.Omega.{arith}
-use mathlib.Core.Bool.{Bool, true, false, not, _&&_, _||_, and-false, and-true, or-true, or-false}
+use mathlib.Core.Bool.{Bool, true, false, not, _&&_, _||_, or-true, or-false}
 use mathlib.Core.List.{List}
 use mathlib.Core.Logic.{_≢_, by-cases}
 use mathlib.Core.Path.{_≡_, refl, sym, ap, ap₂, _∙_, subst}
 use lib.Bits.{bitAnd, bitOr, bitXor, and-le-l, or-lt, xor-lt}
-use lib.Dec.{eqb}
 use lib.ListN.{length, getD, set, length-set}
 use lib.Pow.{pow-lt}
 use lib.Seq.{getD-set-same, getD-set-other}
@@ -16,12 +15,11 @@ use borrow.Author.Tests.{eq-eqb, ne-eqb}
 use Rattle.base.proofs.Bools.{by-bool, true-not-false, and-left, cond-true, cond-false}
 use Rattle.sets.proofs.Laws.{has-none, has-with, has-minus}
 use Rattle.sets.specs.Sets.{most, has}
-use Rattle.sets.proofs.Members.{lowest-below, lowest-has, after-less, after-has, rest-is}
+use Rattle.sets.proofs.Members.{lowest-below, lowest-has, after-less, after-has}
 use Rattle.sets.specs.Lowest.{lowestOf, afterLowest}
-use Rattle.instance.specs.Table.{predsAt, nextAt, nearAt, predsFrom, nextFrom, nearFrom, componentFrom}
-use Rattle.instance.specs.Table.{words}
+use Rattle.instance.specs.Table.{predsAt, nextAt, nearAt, predsFrom, nextFrom, nearFrom, componentFrom, words}
 use Rattle.instance.specs.Instance.{Between}
-use Rattle.instance.specs.Steps.{withIf, Nearest, LinkedNext, Blank, Links}
+use Rattle.instance.specs.Steps.{withIf, Filled, Nearest, LinkedNext, Blank, Links}
 
 -- ---- the nearest members of a set
 
@@ -78,67 +76,10 @@ nearing-more t set near rest near′ rest′ i h more at new next =
 
 -- ---- one activity comes next after each member of a set
 
--- The members of `rest` are still to be linked.
-pub record Joining (t : List ℕ) (set j : ℕ) (l : List ℕ) (rest : ℕ) : Type 0 where
-  pub long : length l ≡ length t
-  pub low : rest < 2 ^ most
-  pub next : (i : ℕ) → i < most → withIf (has rest i) (nextAt l i) j ≡ withIf (has set i) (nextAt t i) j
-  pub before : (at : ℕ) → at < nextFrom → getD l at 0 ≡ getD t at 0
-  pub behind : (at : ℕ) → nearFrom ≤ at → getD l at 0 ≡ getD t at 0
-
-pub joining-none : (t : List ℕ) (set j : ℕ) → set < 2 ^ most → Joining t set j t set
-joining-none t set j h =
-    record { long = refl; low = h; next = λ i b. refl; before = λ at b. refl; behind = λ at b. refl }
-
-pub joining-more : (t : List ℕ) (m j : ℕ) (l : List ℕ) (rest rest′ i x : ℕ) → length t ≡ words → Joining t m j l rest
-    → rest ≢ 0 → i ≡ lowestOf rest
-    → x ≡ bitOr (nextAt l i) (2 ^ j) → rest′ ≡ afterLowest rest → Joining t m j (set l (nextFrom + i) x) rest′
-joining-more t m j l rest rest′ i x long h more at new after =
-    record {
-      long = length-set l (nextFrom + i) x ∙ h .long;
-      low = omega (arith, after-less rest (h .low) more, h .low);
-      next = λ k b. by-cases (ℕ-discrete k i) (λ e. here k e) (λ ne. there k ne) ∙ h .next k b;
-      before = λ p b. getD-set-other l (nextFrom + i) p x 0 (λ q. omega arith) ∙ h .before p b;
-      behind = λ p b. getD-set-other l (nextFrom + i) p x 0 (λ q. omega (arith, below)) ∙ h .behind p b;
-    }
-  where
-    below : i < most
-    below = lowest-below rest i (h .low) more at
-
-    others : (k : ℕ) → has rest′ k ≡ (has rest k && not (eqb k i))
-    others = rest-is rest rest′ i (h .low) more at after
-
-    here : (k : ℕ) → k ≡ i
-        → withIf (has rest′ k) (nextAt (set l (nextFrom + i) x) k) j ≡ withIf (has rest k) (nextAt l k) j
-    here k e =
-        let w = bitOr (nextAt l k) (2 ^ j) in
-        cond-false (bitOr (nextAt (set l (nextFrom + i) x) k) (2 ^ j)) (nextAt (set l (nextFrom + i) x) k)
-        (others k ∙ ap (λ (b : Bool). has rest k && not b) (eq-eqb k i e) ∙ and-false (has rest k))
-        ∙ ap (λ (y : ℕ). nextAt (set l (nextFrom + i) x) y) e
-        ∙ getD-set-same l (nextFrom + i) x 0 (omega (arith, below, h .long))
-        ∙ new
-        ∙ ap (λ (y : ℕ). bitOr (nextAt l y) (2 ^ j)) (sym e)
-        ∙ sym (cond-true w (nextAt l k) (ap (has rest) e ∙ lowest-has rest i (h .low) more at))
-
-    there : (k : ℕ) → k ≢ i
-        → withIf (has rest′ k) (nextAt (set l (nextFrom + i) x) k) j ≡ withIf (has rest k) (nextAt l k) j
-    there k ne =
-        ap₂ (λ (b : Bool) (y : ℕ). withIf b y j)
-        (others k ∙ ap (λ (b : Bool). has rest k && not b) (ne-eqb k i ne) ∙ and-true (has rest k))
-        (getD-set-other l (nextFrom + i) (nextFrom + k) x 0 (λ q. ne (omega arith)))
-
-pub joining-all : (t : List ℕ) (m j : ℕ) (l : List ℕ) (rest : ℕ) → rest ≡ 0 → Joining t m j l rest
-    → LinkedNext t m j l
-joining-all t m j l rest none h =
-    record {
-      long = h .long;
-      next =
-          λ i b.
-          sym (cond-false (bitOr (nextAt l i) (2 ^ j)) (nextAt l i) (ap (λ (x : ℕ). has x i) none ∙ has-none i))
-          ∙ h .next i b;
-      before = h .before;
-      behind = h .behind;
-    }
+pub linked-all : (t : List ℕ) (m j : ℕ) (l : List ℕ)
+    → Filled t nextFrom most (λ i x. x ≡ withIf (has m i) (nextAt t i) j) l → LinkedNext t m j l
+linked-all t m j l h =
+    record { long = h .long; next = h .new; before = h .before; behind = λ at b. h .behind at (omega arith) }
 
 -- ---- the activities below n are linked
 

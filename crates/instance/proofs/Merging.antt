@@ -1,29 +1,25 @@
 -- Components as sets, merged resource by resource.
 use Prim.Native.Nat.{ℕ, _+_, _*_, _^_, _≤_, _<_}
-use native.Mathlib.Decide.{ℕ-discrete}
 use native.Mathlib.Numerals.{add-one}
 use native.Mathlib.Omega.{arith}
-use mathlib.Core.Bool.{Bool, true, false, cond, not, _&&_, _||_, and-false, and-true, or-true}
+use mathlib.Core.Bool.{Bool, true, false, cond, _&&_, _||_, or-true}
 use mathlib.Core.List.{List}
-use mathlib.Core.Logic.{_≢_, by-cases}
-use mathlib.Core.Path.{_≡_, refl, sym, ap, ap₂, _∙_, subst}
+use mathlib.Core.Logic.{_≢_}
+use mathlib.Core.Path.{_≡_, refl, sym, ap, _∙_, subst}
 use lib.Bits.{bitOr, or-lt}
 use lib.Dec.{ltb, eqb}
-use lib.ListN.{length, getD, set, length-set}
 use lib.Pow.{pow-lt}
-use lib.Seq.{getD-set-same, getD-set-other}
-use borrow.Author.Tests.{lt-ltb, ltb-true, eq-eqb, ne-eqb, eqb-true}
+use borrow.Author.Tests.{lt-ltb, ltb-true, eq-eqb, eqb-true}
 use Rattle.base.proofs.Bools.{by-bool, true-not-false, same-bool, both, and-left, and-right, cond-true, cond-false}
 use Rattle.plan.specs.Limits.{mostResources}
 use Rattle.sets.proofs.Laws.{has-none, has-or, has-single}
-use Rattle.sets.proofs.Members.{lowest-below, lowest-has, after-less, after-has, rest-is, rest-last}
+use Rattle.sets.proofs.Members.{lowest-below, lowest-has, after-less, after-has, rest-last}
 use Rattle.sets.specs.Lowest.{lowestOf, afterLowest}
 use Rattle.sets.specs.Sets.{most, has}
-use Rattle.unit_scan.specs.Components.{merged, componentBelow}
-use Rattle.instance.specs.Table.{words, componentFrom, unitsFrom, componentAt, unitsAt, actsOf, resourcesOf}
-use Rattle.instance.specs.Table.{projectIn}
+use Rattle.scan.specs.Components.{merged, componentBelow}
+use Rattle.instance.specs.Table.{componentFrom, unitsFrom, componentAt, unitsAt, actsOf, resourcesOf, projectIn}
 use Rattle.instance.specs.Steps.{Passing, Filled, Joined, IsComponent}
-use Rattle.instance.proofs.Components.{Touched, merged-touched, merged-same, merged-both, merged-none}
+use Rattle.scan.proofs.Components.{Touched, merged-touched, merged-same, merged-both, merged-none}
 
 -- ---- the components of the members of a set as one set
 
@@ -89,63 +85,9 @@ joining-all t m all rest none h =
 
 -- ---- a set becomes the component of its members
 
-pub record Storing (t : List ℕ) (m : ℕ) (l : List ℕ) (rest : ℕ) : Type 0 where
-  pub long : length l ≡ length t
-  pub low : rest < 2 ^ most
-  pub new : (i : ℕ) → i < most → cond (has rest i) m (componentAt l i) ≡ cond (has m i) m (componentAt t i)
-  pub before : (at : ℕ) → at < componentFrom → getD l at 0 ≡ getD t at 0
-  pub behind : (at : ℕ) → componentFrom + most ≤ at → getD l at 0 ≡ getD t at 0
-
-pub storing-none : (t : List ℕ) (m : ℕ) → m < 2 ^ most → Storing t m t m
-storing-none t m h =
-    record { long = refl; low = h; new = λ i b. refl; before = λ at b. refl; behind = λ at b. refl }
-
-pub storing-more : (t : List ℕ) (m : ℕ) (l : List ℕ) (rest rest′ i : ℕ) → length t ≡ words → Storing t m l rest
-    → rest ≢ 0 → i ≡ lowestOf rest → rest′ ≡ afterLowest rest → Storing t m (set l (componentFrom + i) m) rest′
-storing-more t m l rest rest′ i long h more at after =
-    record {
-      long = length-set l (componentFrom + i) m ∙ h .long;
-      low = omega (arith, after-less rest (h .low) more, h .low);
-      new = λ k b. by-cases (ℕ-discrete k i) (here k) (there k) ∙ h .new k b;
-      before = λ p b. getD-set-other l (componentFrom + i) p m 0 (λ q. omega arith) ∙ h .before p b;
-      behind = λ p b. getD-set-other l (componentFrom + i) p m 0 (λ q. omega (arith, below)) ∙ h .behind p b;
-    }
-  where
-    below : i < most
-    below = lowest-below rest i (h .low) more at
-
-    out : (k : ℕ) → has rest′ k ≡ (has rest k && not (eqb k i))
-    out = rest-is rest rest′ i (h .low) more at after
-
-    here : (k : ℕ) → k ≡ i
-        → cond (has rest′ k) m (componentAt (set l (componentFrom + i) m) k) ≡ cond (has rest k) m (componentAt l k)
-    here k e =
-        cond-false m (componentAt (set l (componentFrom + i) m) k)
-        (out k ∙ ap (λ (b : Bool). has rest k && not b) (eq-eqb k i e) ∙ and-false (has rest k))
-        ∙ ap (λ (y : ℕ). componentAt (set l (componentFrom + i) m) y) e
-        ∙ getD-set-same l (componentFrom + i) m 0 (omega (arith, below, h .long))
-        ∙ sym (cond-true m (componentAt l k) (ap (has rest) e ∙ lowest-has rest i (h .low) more at))
-
-    there : (k : ℕ) → k ≢ i
-        → cond (has rest′ k) m (componentAt (set l (componentFrom + i) m) k) ≡ cond (has rest k) m (componentAt l k)
-    there k ne =
-        ap₂ (λ (b : Bool) (y : ℕ). cond b m y)
-        (out k ∙ ap (λ (b : Bool). has rest k && not b) (ne-eqb k i ne) ∙ and-true (has rest k))
-        (getD-set-other l (componentFrom + i) (componentFrom + k) m 0 (λ q. ne (omega arith)))
-
 -- The table t with the set as the component of its members.
 abbrev pub Merged : List ℕ → ℕ → List ℕ → Type 0
 Merged t m r = Filled t componentFrom most (λ i x. x ≡ cond (has m i) m (componentAt t i)) r
-
-pub storing-all : (t : List ℕ) (m : ℕ) (l : List ℕ) (rest : ℕ) → rest ≡ 0 → Storing t m l rest → Merged t m l
-storing-all t m l rest none h =
-    record {
-      long = h .long;
-      new = λ i b.
-          sym (cond-false m (componentAt l i) (ap (λ (x : ℕ). has x i) none ∙ has-none i)) ∙ h .new i b;
-      before = h .before;
-      behind = h .behind;
-    }
 
 -- ---- resource by resource
 

@@ -15,7 +15,8 @@ use Rattle.sets.specs.Lowest.{afterLowest}
 use Rattle.sets.specs.Sets.{most, has}
 use Rattle.instance.specs.Table.{componentAt, ownAt, actsOf, projectIn}
 use Rattle.instance.specs.Instance.{ownOf, Laid}
-use Rattle.instance.proofs.Components.{component-low, component-own}
+use Rattle.scan.proofs.Components.{component-low}
+use Rattle.instance.proofs.Components.{component-own}
 
 module _ (t : List ℕ) (h : Laid t) where
   own-low : (i : ℕ) → ownOf t i ≤ i

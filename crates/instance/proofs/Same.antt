@@ -12,7 +12,7 @@ use Rattle.base.proofs.Below.{every-same}
 use Rattle.base.proofs.Bools.{by-bool}
 use Rattle.plan.specs.Limits.{mostResources}
 use Rattle.sets.specs.Sets.{most, has}
-use Rattle.unit_scan.specs.Components.{componentBelow}
+use Rattle.scan.specs.Components.{componentBelow}
 use Rattle.instance.specs.Table.{unitsFrom, capacityFrom, resourcesCell, actsCell, componentAt, unitsAt}
 use Rattle.instance.specs.Table.{capacityAt, resourcesOf, actsOf, projectIn}
 use Rattle.instance.specs.Instance.{ownOf, fitTogether, isTight}

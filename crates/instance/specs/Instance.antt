@@ -8,7 +8,7 @@ use lib.ListN.{length, getD}
 use Rattle.base.specs.Below.{everyBelow, _implies_}
 use Rattle.plan.specs.Limits.{mostResources, longestDuration, wordValues}
 use Rattle.sets.specs.Sets.{most, has}
-use Rattle.unit_scan.specs.Components.{componentOf}
+use Rattle.scan.specs.Components.{componentOf}
 use Rattle.instance.specs.Table.{mostCount, words, durationAt, predsAt, nextAt, nearAt, componentAt, clashAt}
 use Rattle.instance.specs.Table.{unitsAt, capacityAt, resourcesOf, tightOf, presentOf, actsOf, capOf, variantOf}
 use Rattle.instance.specs.Table.{projectIn, predsFrom, componentFrom, presentCell, linkOf}

@@ -4,14 +4,14 @@ use Prim.Native.Nat.{ℕ, _+_, _*_}
 use mathlib.Core.Bool.{true}
 use mathlib.Core.List.{List}
 use lib.ListN.{getD}
-use Rattle.plan.specs.Limits.{mostResources}
+use Rattle.plan.specs.Limits.{mostResources, mostUnits, lastEdition}
 use Rattle.sets.specs.Sets.{has, width}
 use Rattle.sets.specs.Lowest.{lowestOf}
 use Rattle.schedule.specs.Project.{Project}
 
 -- No activity holds more units of a resource, and no resource has more.
 abbrev pub mostCount : ℕ
-mostCount = 15
+mostCount = mostUnits lastEdition
 
 -- Where the columns begin but the first, and what stands behind them.
 abbrev pub predsFrom : ℕ

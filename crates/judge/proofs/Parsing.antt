@@ -26,6 +26,7 @@ module _ (s : List ℕ) (p : Parsed) (a : Answers s p) where
   pub is-ranged : p .verdict ≡ Accepted → Sized (p .tables) → Ranged (p .tables)
   is-ranged e z =
       record {
+        resources = a .resources e;
         acts = a .acts e;
         nodes = a .nodes e;
         ranges = parse-text s (planOf (p .tables)) (holds-plan e) .0;

@@ -2,7 +2,7 @@
 use Prim.Native.Nat.{ℕ, _≤_, _<_}
 use mathlib.Core.Bool.{true}
 use mathlib.Core.Path.{_≡_}
-use Rattle.plan.specs.Limits.{mostActs, mostNodes}
+use Rattle.plan.specs.Limits.{mostResources, mostActs, mostNodes}
 use Rattle.plan.specs.Plan.{planOf, isPlan, Sized}
 use Rattle.plan.specs.declared.Tables.{Tables}
 use Rattle.term.specs.Term.{Term}
@@ -13,6 +13,7 @@ use Rattle.judge.specs.declared.Campaign.{Campaign}
 
 -- The tables hold a plan whose values are in range.
 pub record Ranged (tables : Tables) : Type 0 where
+  pub resources : tables .resources ≤ mostResources
   pub acts : tables .acts ≤ mostActs
   pub nodes : tables .nodes ≤ mostNodes
   pub ranges : isPlan (planOf tables) ≡ true

@@ -1,7 +1,7 @@
 -- A form read byte by byte.
 use Prim.Native.Nat.{ℕ, zero, suc, _+_, _-_, _≤_, _<_}
 use mathlib.Core.Bool.{Bool, true, false, _&&_, false≢true}
-use mathlib.Core.List.{List, [], _∷_}
+use mathlib.Core.List.{List, [], _∷_, _++_}
 use mathlib.Core.Option.{Option, none, some}
 use mathlib.Core.Path.{_≡_, refl, sym, ap, ap₂, _∙_}
 use native.Mathlib.Nat.{add-zero}
@@ -149,11 +149,11 @@ module _ (s : List ℕ) (l : Line) where
         ∙ and-false (ltb 0 (length ahead))))
 
 -- The first byte of a form, then the others.
-abbrev with-values : List ℕ → Option Fields → Option Fields
+abbrev pub with-values : List ℕ → Option Fields → Option Fields
 with-values [] o = o
 with-values (v ∷ vs) o = with-value v (with-values vs o)
 
-abbrev joined : List ℕ → Option Fields → Option Fields
+abbrev pub joined : List ℕ → Option Fields → Option Fields
 joined form none = none
 joined form (some f) = with-values (f .values) (matched form (f .rest))
 
@@ -178,6 +178,28 @@ module _ (form : List ℕ) where
       chosen (eqb b 35) (eqb b 64) _ _ _ _ _ _ (guarded (isValue (digits s)) _ _ refl)
       (guarded (isLetter (getD s 0 0)) _ _ refl)
       (guarded (ltb 0 (length s) && eqb (getD s 0 0) b) _ _ refl)
+
+-- One form behind another.
+values-joined : (form vs : List ℕ) (o : Option Fields) → with-values vs (joined form o) ≡ joined form (with-values vs o)
+values-joined form [] o = refl
+values-joined form (v ∷ vs) o = ap (with-value v) (values-joined form vs o) ∙ value-joined v (with-values vs o)
+  where
+    value-joined : (v : ℕ) (o : Option Fields) → with-value v (joined form o) ≡ joined form (with-value v o)
+    value-joined v none = refl
+    value-joined v (some f) = refl
+
+pub matched-append : (form form′ s : List ℕ) → matched (form ++ form′) s ≡ joined form′ (matched form s)
+unfolding matched
+matched-append [] form′ s = refl
+matched-append (b ∷ form) form′ s =
+    matched-cons (form ++ form′) b s ∙ both-joined (matched-append form form′) (matched (b ∷ []) s)
+    ∙ ap (joined form′) (sym (matched-cons form b s))
+  where
+    both-joined : ((t : List ℕ) → matched (form ++ form′) t ≡ joined form′ (matched form t)) → (o : Option Fields)
+        → joined (form ++ form′) o ≡ joined form′ (joined form o)
+    both-joined others none = refl
+    both-joined others (some f) =
+        ap (with-values (f .values)) (others (f .rest)) ∙ values-joined form′ (f .values) (matched form (f .rest))
 
 pub advance-nil : (x : Option Seen) → advance [] x ≡ x
 unfolding advance matched latest

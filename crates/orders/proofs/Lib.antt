@@ -4,4 +4,6 @@ pub mod Differing
 pub mod Comparing
 pub mod Writing
 pub mod Entering
+pub mod Held
+pub mod Under
 pub mod Newness

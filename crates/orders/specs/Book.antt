@@ -9,8 +9,10 @@ use lib.Dec.{eqb}
 use lib.ListN.{length, getD}
 use Rattle.base.specs.Below.{everyBelow}
 use Rattle.sets.specs.Sets.{most, has}
-use Rattle.scan.specs.Model.{Problem}
-use Rattle.scan.specs.Union.{activeUnder}
+use Rattle.schedule.specs.Project.{Project}
+use Rattle.schedule.specs.Schedule.{active}
+use Rattle.schedule.specs.Sessions.{startsOf}
+use Rattle.instance.specs.Table.{predsAt, presentOf, linkOf}
 
 -- The cells of an entry: its activities, the link to the entry before it in its bucket, the link to the one before it
 -- with the same activities, where its order differs from the one compared last, and the sets of those before each
@@ -106,9 +108,33 @@ pub record Rivals (preds : ℕ → ℕ) (k : ℕ) (b : List ℕ) : Type 0 where
   pub chain : Chain k b
   pub differ : (e : ℕ) → e < k → presentAt b e ≡ presentAt b (k - 1) → Differ (orderAt b e) preds (differsAt b e)
 
+-- The same of the orders up to the table's link, each an order of the present activities.
+pub record Prior (t b : List ℕ) : Type 0 where
+  pub rivals : Rivals (predsAt t) (linkOf t) b
+  pub within : (e i j : ℕ) → e < linkOf t → presentAt b e ≡ presentAt b (linkOf t - 1) → j < most
+      → has (orderAt b e j) i ≡ true → (has (presentOf t) i ≡ true) × (has (presentOf t) j ≡ true)
+
+-- The project with another order.
+abbrev pub underOrder : Project → (ℕ → ℕ) → Project
+underOrder p order =
+    record {
+      size = p .size;
+      present = p .present;
+      duration = p .duration;
+      precedes = λ i j. has (order j) i;
+      gap = p .gap;
+      resources = p .resources;
+      capacity = p .capacity;
+      units = p .units;
+      free = p .free;
+      floor = p .floor;
+      begun = p .begun;
+    }
+
 -- No entry up to the link k with the same activities has an order under which the schedule is active.
-unfoldable pub isNewBy : Problem → ℕ → List ℕ → List ℕ → Bool
-isNewBy q k b ends = everyBelow k λ e. not (isAlike b k e && activeUnder q ends (orderAt b e))
+unfoldable pub isNewBy : Project → ℕ → List ℕ → List ℕ → Bool
+isNewBy p k b row =
+    everyBelow k λ e. not (isAlike b k e && active (underOrder p (orderAt b e)) (startsOf row))
 
 -- The book with other cells for where orders differ, and no other change.
 pub record Beside (b b′ : List ℕ) : Type 0 where

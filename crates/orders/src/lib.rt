@@ -1,21 +1,24 @@
 // The orders of the variants searched so far, found by their activities; whether one of them has a schedule among its
 // active ones.
-use candidates::NEVER;
-use candidates::Work;
-use network::LINK;
-use network::Table;
+use instance::LINK;
+use instance::Table;
 use plan::MOST_ACTS;
+use profile::NEVER;
+use profile::Work;
 use soonest::misplaced;
+ghost use mathlib.Core.Bool.{true};
 ghost use mathlib.Core.Path.{_≡_};
 ghost use Prim.Native.Nat.{ℕ, _+_, _*_, _^_, _≤_, _<_};
 ghost use lib.ListN.{length, getD};
 ghost use Rattle.sets.specs.Sets.{most};
-ghost use Rattle.network.specs.Network.{Grouped, linkOf};
-ghost use Rattle.candidates.specs.Tables.{problemIn};
-ghost use Rattle.candidates.specs.Work.{Timed};
+ghost use Rattle.schedule.specs.Schedule.{active};
+ghost use Rattle.schedule.specs.Sessions.{startsOf};
+ghost use Rattle.instance.specs.Table.{projectIn, linkOf};
+ghost use Rattle.instance.specs.Instance.{Instance};
+ghost use Rattle.soonest.specs.Row.{Ended, rowIn};
 ghost use Rattle.plan.specs.Limits.{mostVariants};
 ghost use Rattle.orders.specs.Book.{entryCells, orderFrom, entriesOf, itself, Nearest, Book, Chain, Differ};
-ghost use Rattle.orders.specs.Book.{Rivals, isNewBy, Compared, Written, Entered};
+ghost use Rattle.orders.specs.Book.{Prior, isNewBy, Compared, Written, Entered};
 
 // The cells of an entry: its activities, a link to the entry before it in its bucket, a link to the one before it with
 // the same activities, where its order differs from the one compared last, and the sets of those before each activity.
@@ -40,12 +43,12 @@ pub type Heads = [u32; BUCKETS + 1];
 // No order up to the link in the table has the schedule among its active ones. In one where activity j has the same
 // before it as in one that was tried, it is misplaced again.
 pub fn is_new(table: &Table, work: &Work, book: &[u32]) -> bool
-    requires { ⌜ Grouped (now table) × Timed (now table) (now work)
-        × Rivals (problemIn (now table) .preds) (linkOf (now table)) (now book) ⌝ }
+    requires { ⌜ Instance (now table) × Ended (now table) (now work) × Prior (now table) (now book)
+        × (active (projectIn (now table)) (startsOf (rowIn (now table) (now work))) ≡ true) ⌝ }
     ensures { λ r.
         ⌜ r
-        ≡ isNewBy (problemIn (now (table .entry))) (linkOf (now (table .entry))) (now (book .entry))
-        (now (work .entry)) ⌝ }
+        ≡ isNewBy (projectIn (now (table .entry))) (linkOf (now (table .entry))) (now (book .entry))
+        (rowIn (now (table .entry)) (now (work .entry))) ⌝ }
 {
     let mut link = table[LINK] as usize;
     let mut j = 0;

@@ -1,8 +1,8 @@
 -- The cursors on the way through the lines, and what they say.
 use Prim.Native.Nat.{ℕ, _+_, _≤_, _<_}
 use mathlib.Core.Bool.{Bool, true, false}
-use mathlib.Core.List.{List, [], _∷_}
-use mathlib.Core.Option.{Option, none, some, Option·none-ne-some}
+use mathlib.Core.List.{List, []}
+use mathlib.Core.Option.{Option, none, some}
 use mathlib.Core.Path.{_≡_, refl, sym, ap, ap₂, _∙_}
 use native.Mathlib.Decide.{decLe}
 use native.Mathlib.Omega.{arith}
@@ -12,19 +12,19 @@ use lib.Seq.{drop-cons}
 use borrow.Author.Tests.{le-leb, lt-leb}
 use Rattle.plan.specs.declared.Refusal.{Refusal}
 use Rattle.plan.specs.declared.Refusal.the-variants.{Form}
-use Rattle.format.specs.Lines.{Fields, matched, slots}
+use Rattle.format.specs.Lines.{Fields, matched}
 use Rattle.format.specs.Parse.{LinesRead, read, stop, Reader, aLine, tested, theEnd}
 use Rattle.base.proofs.Bools.{elim-true, elim-false}
-use Rattle.format.proofs.Forms.{fitting-count, filled-matched}
 use Rattle.line_reader.specs.declared.Line.{Line}
 use Rattle.parser.specs.declared.Cursor.{Cursor}
 use Rattle.parser.specs.declared.Verdict.the-variants.{Accepted, Refused}
 use Rattle.parser.specs.Answer.{verdictOf}
-use Rattle.line_reader.specs.Seen.{Seen, started, seen, latest, latestOf, advance}
-use Rattle.parser.specs.Steps.{outcome, resumed, lineTaken}
-use Rattle.parser.specs.Steps.{Stops, TakesLine, testTaken, TestsLine, Reads}
-use Rattle.line_reader.proofs.Cases.{by-option, by-dec}
+use Rattle.line_reader.specs.Seen.{Seen, seen}
+use Rattle.parser.specs.Steps.{outcome, resumed, lineTaken, Stops, TakesLine, testTaken, TestsLine, Reads}
+use Rattle.parser.specs.Steps.{fieldsTo, Matches}
+use Rattle.line_reader.proofs.Cases.{by-dec}
 use Rattle.line_reader.proofs.Forms.{seen-in, seen-out}
+use Rattle.parser.proofs.Matching.{from-in, to-in, to-out}
 
 -- What is read before a line is known to be there.
 abbrev u : Unit {0}
@@ -51,64 +51,51 @@ outcome-map s c f a =
     (λ h. outcome-in s c (f a) h ∙ sym (ap (mapped f) (outcome-in s c a h)))
     (λ h. outcome-out s c (f a) (omega arith) ∙ sym (ap (mapped f) (outcome-out s c a (omega arith))))
 
-seen-some : (s : List ℕ) (l : Line) (x : Seen) → seen s l ≡ some x → (l .first ≡ x .first) × (l .second ≡ x .second)
-seen-some s l x e =
-    by-dec (decLe (l .next) (length s))
-    (λ h. let p = sym (seen-in s l h) ∙ e in (cc, cc))
-    (λ h. absurd (Option·none-ne-some x (sym (seen-out s l (omega arith)) ∙ e)))
-
-latest-rest : (a b : ℕ) (vs rest : List ℕ) → latest a b vs rest .rest ≡ rest
-unfolding latest
-latest-rest a b [] rest = refl
-latest-rest a b (v ∷ vs) rest = latest-rest b v vs rest
-
 -- What a line says by what its form matches.
 module _ {A : Type 0} (make : List ℕ → A) (line : ℕ) where
   abbrev said : Option Fields → LinesRead A
   said o = elim o [ none ↦ stop (Form line) | some f ↦ read (make (f .values)) (line + 1) (f .rest) ]
 
-  line-says : (form s : List ℕ) (o : Option Fields) → matched form s ≡ o → aLine form make line s ≡ said o
+  line-says : (form s : List ℕ) → aLine form make line s ≡ said (matched form s)
   unfolding aLine
-  line-says form s o e = ap said e
+  line-says form s = refl
 
--- A line that is matched and taken is the line of its form, and says what its two latest values make.
-module _ {A : Type 0} (s : List ℕ) (before after : Cursor) (l : Line) (form : List ℕ) (make : List ℕ → A) (a : A)
-    (line-is : seen s l ≡ advance form (seen s (started (before .at)))) (taken : TakesLine s before l after)
-    (made : (vs rest : List ℕ) → length vs ≡ slots form
-    → l .first ≡ latest 0 0 vs rest .first → l .second ≡ latest 0 0 vs rest .second → make vs ≡ a) where
-  pub line-reads : Reads s before (aLine form make) 1 after a
-  unfolding resumed lineTaken advance
+-- A line that is matched and taken is the line of its form, and says what its values make.
+module _ {A : Type 0} {s form : List ℕ} {before after : Cursor} {l : Line} {vs : List ℕ} (make : List ℕ → A)
+    (matches : Matches s form (before .at) (l .next) vs) (taken : TakesLine s before l after) where
+  abbrev taking : LinesRead (Unit {0}) → Option Seen → LinesRead A
+  taking o x = mapped (λ _. make vs) (lineTaken o x)
+
+  taken-says : (line : ℕ) (t : List ℕ)
+      → taking (read u line t) (seen s l) ≡ said make line (fieldsTo s vs (l .next))
+  unfolding lineTaken
+  taken-says line t =
+      by-dec (decLe (l .next) (length s))
+      (λ h. ap (taking (read u line t)) (seen-in s l h) ∙ sym (ap (said make line) (to-in s vs (l .next) h)))
+      (λ h.
+      ap (taking (read u line t)) (seen-out s l (omega arith))
+      ∙ sym (ap (said make line) (to-out s vs (l .next) (omega arith))))
+
+  pub line-reads : Reads s before (aLine form make) 1 after (make vs)
+  unfolding resumed lineTaken
   line-reads =
       let reader : Reader A = aLine form make in
-      let answer : LinesRead (Unit {0}) → Option Seen → LinesRead A = λ o x. mapped (λ _. a) (lineTaken o x) in
-      let start : outcome s after a ≡ answer (outcome s before u) (seen s l) =
-      outcome-map s after (λ (v : Unit {0}). a) u ∙ ap (mapped (λ _. a)) (taken .outcome-is) in
+      let start : outcome s after (make vs) ≡ taking (outcome s before u) (seen s l) =
+      outcome-map s after (λ (v : Unit {0}). make vs) u ∙ ap (mapped (λ _. make vs)) (taken .outcome-is) in
       record {
         outcome-is =
             by-dec (decLe (before .at) (length s))
             (λ h.
             let x : List ℕ = drop (before .at) s in
-            let e₀ : outcome s before u ≡ read u (before .line) x = outcome-in s before u h in
-            let e₁ : seen s l ≡ latestOf 0 0 (matched form x) =
-            line-is ∙ ap (advance form) (seen-in s (started (before .at)) h) in
-            start ∙ ap (λ (o : LinesRead (Unit {0})). answer o (seen s l)) e₀
-            ∙ by-option (matched form x)
-            (λ e. ap (answer (read u (before .line) x)) (e₁ ∙ ap (latestOf 0 0) e)
-            ∙ sym (line-says make (before .line) form x none e))
-            (λ f e.
-            let y : Seen = latest 0 0 (f .values) (f .rest) in
-            let e₂ : seen s l ≡ some y = e₁ ∙ ap (latestOf 0 0) e in
-            let two = seen-some s l y e₂ in
-            let count = fitting-count form (f .values) (filled-matched form x f e .fits) in
-            ap (answer (read u (before .line) x)) e₂
-            ∙ ap₂ (λ (b : A) t. read b (before .line + 1) t) (sym (made (f .values) (f .rest) count (two .0) (two .1)))
-            (latest-rest 0 0 (f .values) (f .rest))
-            ∙ sym (line-says make (before .line) form x (some f) e))
-            ∙ sym (ap (λ (o : LinesRead (Unit {0})). resumed o reader) e₀))
+            let e : outcome s before u ≡ read u (before .line) x = outcome-in s before u h in
+            start ∙ ap (λ (o : LinesRead (Unit {0})). taking o (seen s l)) e ∙ taken-says (before .line) x
+            ∙ ap (said make (before .line)) (matches .fields-are ∙ from-in s form (before .at) h)
+            ∙ sym (line-says make (before .line) form x)
+            ∙ sym (ap (λ (o : LinesRead (Unit {0})). resumed o reader) e))
             (λ h.
-            let e₀ : outcome s before u ≡ stop (before .refusal) = outcome-out s before u (omega arith) in
-            start ∙ ap (λ (o : LinesRead (Unit {0})). answer o (seen s l)) e₀
-            ∙ sym (ap (λ (o : LinesRead (Unit {0})). resumed o reader) e₀));
+            let e : outcome s before u ≡ stop (before .refusal) = outcome-out s before u (omega arith) in
+            start ∙ ap (λ (o : LinesRead (Unit {0})). taking o (seen s l)) e
+            ∙ sym (ap (λ (o : LinesRead (Unit {0})). resumed o reader) e));
         line = taken .line;
       }
 

@@ -4,10 +4,8 @@ use mathlib.Core.List.{List, [], _∷_, _++_, append-nil}
 use mathlib.Core.Path.{_≡_, refl, sym, ap, _∙_}
 use native.Mathlib.Nat.{sub-eq-zero-of-le}
 use native.Mathlib.Omega.{arith}
-use lib.ListN.{length, take, set, length-set}
 use lib.Seq.{append-snoc}
 use Rattle.format.specs.Parse.{LinesRead, read, stop, Reader, _>>=_, return, theLines}
-use Rattle.format.proofs.Columns.{Columns, zip-stored}
 use Rattle.parser.specs.declared.Cursor.{Cursor}
 use Rattle.parser.specs.Steps.{outcome, resumed, Reads}
 use Rattle.parser.proofs.Cursors.{mapped, outcome-map}
@@ -84,62 +82,40 @@ module _ {A : Type 0} (reader : Reader A) where
       step (read u line s) = refl
       step (stop r) = refl
 
--- The loop that reads n lines into the two columns of a table: what it has done after i lines.
-pub record ReadSoFar {A : Type 0} (columns : Columns A) (reader : Reader A) (size : ℕ) (s : List ℕ)
-    (before : Cursor) (n i : ℕ) (last : Cursor) (xs ys : List ℕ) : Type 0 where
+-- The loop that reads n lines: what it has done after i of them, with what they say.
+pub record ReadSoFar {A : Type 0} (reader : Reader A) (s : List ℕ) (before : Cursor) (n i : ℕ) (last : Cursor)
+    (xs : List A) : Type 0 where
   pub count : i ≤ n
-  pub room : n ≤ size
-  pub first-size : length xs ≡ size
-  pub second-size : length ys ≡ size
   pub line : last .line ≤ before .line + i
-  pub lines :
-      more reader (n - i) (outcome s last (columns .zip (take i xs) (take i ys)))
-      ≡ resumed (outcome s before (tt {0})) (theLines n reader)
+  pub lines : more reader (n - i) (outcome s last xs) ≡ resumed (outcome s before (tt {0})) (theLines n reader)
 
-module _ {A : Type 0} {columns : Columns A} {reader : Reader A} {size : ℕ} {s : List ℕ} {before : Cursor} {n : ℕ}
-  where
-    open Columns columns using (zip, make, none-of)
+module _ {A : Type 0} {reader : Reader A} {s : List ℕ} {before : Cursor} {n : ℕ} where
+  pub none-read : ReadSoFar reader s before n 0 before []
+  none-read =
+      let all : n - 0 ≡ n = omega arith in
+      record {
+        count = omega arith;
+        line = omega arith;
+        lines = ap (λ (k : ℕ). more reader k (outcome s before [])) all ∙ more-none reader s before n;
+      }
 
-    pub none-read : {xs ys : List ℕ} → n ≤ size → length xs ≡ size → length ys ≡ size
-        → ReadSoFar columns reader size s before n 0 before xs ys
-    none-read {ys = ys} h e f =
-        let all : n - 0 ≡ n = omega arith in
+  module _ {i : ℕ} {last : Cursor} {xs : List A} (so-far : ReadSoFar reader s before n i last xs) where
+    pub one-read : i < n → {after : Cursor} {a : A} {ys : List A} → Reads s last reader 1 after a → ys ≡ xs ++ (a ∷ [])
+        → ReadSoFar reader s before n (i + 1) after ys
+    one-read h {after} {a} {ys} r e =
         record {
           count = omega arith;
-          room = h;
-          first-size = e;
-          second-size = f;
-          line = omega arith;
+          line = omega (arith, so-far .line, r .line);
           lines =
-              ap (λ (zs : List A). more reader (n - 0) (outcome s before zs)) (none-of [])
-              ∙ ap (λ (k : ℕ). more reader k (outcome s before [])) all ∙ more-none reader s before n;
+              ap (λ (zs : List A). more reader (n - (i + 1)) (outcome s after zs)) e
+              ∙ more-again reader s last after xs a n i h r ∙ so-far .lines;
         }
 
-    module _ {i : ℕ} {last : Cursor} {xs ys : List ℕ}
-        (so-far : ReadSoFar columns reader size s before n i last xs ys) where
-      pub one-read : i < n → {after : Cursor} (a b : ℕ) → Reads s last reader 1 after (make a b)
-          → ReadSoFar columns reader size s before n (i + 1) after (set xs i a) (set ys i b)
-      one-read h {after} a b r =
-          let h₁ : i < length xs = omega (arith, so-far .room, so-far .first-size) in
-          let h₂ : i < length ys = omega (arith, so-far .room, so-far .second-size) in
-          record {
-            count = omega arith;
-            room = so-far .room;
-            first-size = length-set xs i a ∙ so-far .first-size;
-            second-size = length-set ys i b ∙ so-far .second-size;
-            line = omega (arith, so-far .line, r .line);
-            lines =
-                ap (λ (zs : List A). more reader (n - (i + 1)) (outcome s after zs))
-                (zip-stored columns xs ys a b i h₁ h₂)
-                ∙ more-again reader s last after (zip (take i xs) (take i ys)) (make a b) n i h r ∙ so-far .lines;
-          }
-
-      pub all-read : n ≤ i → Reads s before (theLines n reader) n last (zip (take n xs) (take n ys))
-      all-read h =
-          let all : n ≡ i = omega (arith, so-far .count) in
-          record {
-            outcome-is =
-                ap (λ (k : ℕ). outcome s last (zip (take k xs) (take k ys))) all
-                ∙ more-done reader s last (zip (take i xs) (take i ys)) n i h ∙ so-far .lines;
-            line = omega (arith, so-far .line);
-          }
+    pub all-read : n ≤ i → {ys : List A} → ys ≡ xs → Reads s before (theLines n reader) n last ys
+    all-read h e =
+        let all : n ≡ i = omega (arith, so-far .count) in
+        record {
+          outcome-is =
+              ap (λ (zs : List A). outcome s last zs) e ∙ more-done reader s last xs n i h ∙ so-far .lines;
+          line = omega (arith, so-far .line);
+        }

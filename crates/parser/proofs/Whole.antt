@@ -2,41 +2,28 @@
 use Prim.Native.Nat.{ℕ, _≤_, _<_}
 use mathlib.Core.Bool.{Bool, true, _||_}
 use mathlib.Core.List.{List}
-use mathlib.Core.Path.{_≡_, sym, ap, _∙_, subst, fun-ext}
+use mathlib.Core.Path.{_≡_, sym, ap, _∙_}
 use native.Mathlib.Decide.{decLe}
 use native.Mathlib.Omega.{arith}
 use lib.Dec.{eqb, ltb}
 use lib.ListN.{length}
-use borrow.Author.Tests.{eqb-true, eqb-false, ne-eqb, le-ltb}
-use Rattle.plan.specs.Limits.{between, longest, mostResources, mostActs, mostNodes, isEdition, editionForm}
+use borrow.Author.Tests.{ne-eqb, le-ltb}
+use Rattle.plan.specs.Limits.{between, longest, lastEdition, mostResources, mostActs, mostNodes, editionForm}
 use Rattle.plan.specs.Limits.{resourcesForm, actsForm, nodesForm}
 use Rattle.plan.specs.Plan.{Activity, Node, Plan, planOf}
 use Rattle.plan.specs.declared.Tables.{Tables}
-use Rattle.plan.specs.declared.Refusal.the-variants.{Length, Form}
-use Rattle.format.specs.Parse.{LinesRead, read, stop, Reader, _>>=_, return, theLines, theEnd, aCount}
+use Rattle.plan.specs.declared.Refusal.the-variants.{Length}
+use Rattle.format.specs.Parse.{LinesRead, read, stop, Reader, _>>=_, return, theLines, theEnd, aCount, theCapacities}
 use Rattle.format.specs.Parse.{anActivity, aNode, planLines, Result, holds, refuses, parse}
 use Rattle.parser.specs.declared.Parsed.{Parsed}
 use Rattle.parser.specs.declared.Cursor.{Cursor}
 use Rattle.parser.specs.declared.Verdict.{Verdict}
 use Rattle.parser.specs.declared.Verdict.the-variants.{Accepted, Refused}
 use Rattle.parser.specs.Answer.{resultOf, verdictOf, Answers}
-use Rattle.parser.specs.Steps.{outcome, resumed, Reads}
-use Rattle.base.proofs.Bools.{by-bool, elim-true, elim-false}
-use Rattle.ranges.proofs.Between.{between-under, between-over}
+use Rattle.parser.specs.Steps.{firstLine, outcome, resumed, Reads}
+use Rattle.base.proofs.Bools.{elim-true, elim-false}
 use Rattle.line_reader.proofs.Cases.{by-dec}
 use Rattle.parser.proofs.Cursors.{outcome-in, outcome-out, verdict-in, verdict-out}
-
-edition-is : (n : ℕ) → between 1 1 n ≡ isEdition n
-edition-is n =
-    by-bool (eqb n 1)
-    (λ e. ap (λ (k : ℕ). between 1 1 k) (eqb-true n 1 e) ∙ sym e)
-    (λ e.
-    by-dec (decLe n 1)
-    (λ h. between-under 1 1 n (less n h (eqb-false n 1 e)) ∙ sym e)
-    (λ h. between-over 1 1 n (omega arith) ∙ sym e))
-  where
-    less : (n : ℕ) → n ≤ 1 → (n ≡ 1 → ⊥) → n < 1
-    less n h other = omega arith
 
 abbrev bound : {A B : Type 0} → LinesRead A → (A → Reader B) → LinesRead B
 bound o then = elim o [ read a line s ↦ then a line s | stop r ↦ stop r ]
@@ -87,41 +74,44 @@ answered s c v t e =
     ap (λ (x : Verdict). resultOf (record { verdict = x; tables = t })) (e ∙ sym (verdict-out s c (omega arith)))
     ∙ sym (ap concluded (outcome-out s c (planOf t) (omega arith))))
 
-abbrev start : Cursor
-start = record { at = 0; line = 1; refusal = Form 1 }
-
-module _ {s : List ℕ} {s₁ s₂ s₃ s₄ s₅ s₆ s₇ : Cursor} {e r n m : ℕ} {acts : List Activity} {nodes : List Node}
-    (edition : Reads s start (aCount editionForm (between 1 1)) 1 s₁ e)
+module _ {s : List ℕ} {s₀ s₁ s₂ s₃ s₄ s₅ s₆ s₇ s₈ : Cursor} {e r n m : ℕ} {bs : List ℕ} {acts : List Activity}
+    {nodes : List Node}
+    (start : s₀ ≡ firstLine)
+    (edition : Reads s s₀ (aCount editionForm (between 1 lastEdition)) 1 s₁ e)
     (resources : Reads s s₁ (aCount resourcesForm (between 1 mostResources)) 1 s₂ r)
-    (act-count : Reads s s₂ (aCount actsForm (between 1 mostActs)) 1 s₃ n)
-    (activities : Reads s s₃ (theLines n (anActivity r)) n s₄ acts)
-    (node-count : Reads s s₄ (aCount nodesForm (between 1 mostNodes)) 1 s₅ m)
-    (tree : Reads s s₅ (theLines m (aNode n)) m s₆ nodes)
-    (end : Reads s s₆ theEnd 0 s₇ (tt {0})) where
-  plan-lines : planLines 1 s ≡ outcome s s₇ (record { resources = r; activities = acts; nodes = nodes })
+    (capacities : Reads s s₂ (theCapacities e r) r s₃ bs)
+    (act-count : Reads s s₃ (aCount actsForm (between 1 mostActs)) 1 s₄ n)
+    (activities : Reads s s₄ (theLines n (anActivity e bs)) n s₅ acts)
+    (node-count : Reads s s₅ (aCount nodesForm (between 1 mostNodes)) 1 s₆ m)
+    (tree : Reads s s₆ (theLines m (aNode n)) m s₇ nodes)
+    (end : Reads s s₇ theEnd 0 s₈ (tt {0})) where
+  abbrev whole : Plan
+  whole = record { edition = e; capacities = bs; activities = acts; nodes = nodes }
+
+  plan-lines : planLines 1 s ≡ outcome s s₈ whole
   unfolding planLines
   plan-lines =
-      let first : Reads s start (aCount editionForm isEdition) 1 s₁ e =
-      subst (λ (fits : ℕ → Bool). Reads s start (aCount editionForm fits) 1 s₁ e) (fun-ext edition-is) edition
-      in
-      ap (λ (o : LinesRead (Unit {0})). bound o (λ u. planLines)) (sym (outcome-in s start tt (omega arith)))
-      ∙ step (tt {0}) (λ _. aCount editionForm isEdition) _ first
+      ap (λ (o : LinesRead (Unit {0})). bound o (λ u. planLines)) (sym (outcome-in s firstLine tt (omega arith)))
+      ∙ ap (λ (c : Cursor). bound (outcome s c tt) (λ u. planLines)) (sym start)
+      ∙ step (tt {0}) (λ _. aCount editionForm (between 1 lastEdition)) _ edition
       ∙ step e (λ _. aCount resourcesForm (between 1 mostResources)) _ resources
-      ∙ step r (λ _. aCount actsForm (between 1 mostActs)) _ act-count
-      ∙ step n (λ k. theLines k (anActivity r)) _ activities
+      ∙ step r (theCapacities e) _ capacities
+      ∙ step bs (λ _. aCount actsForm (between 1 mostActs)) _ act-count
+      ∙ step n (λ k. theLines k (anActivity e bs)) _ activities
       ∙ step acts (λ _. aCount nodesForm (between 1 mostNodes)) _ node-count
       ∙ step m (λ k. theLines k (aNode n)) _ tree
       ∙ step nodes (λ _. theEnd) _ end
-      ∙ returned s s₇ (tt {0}) (record { resources = r; activities = acts; nodes = nodes })
+      ∙ returned s s₈ (tt {0}) whole
 
-  pub answers : 0 < length s → length s ≤ longest → {v : Verdict} {t : Tables} → v ≡ verdictOf (outcome s s₇ (tt {0}))
-      → planOf t ≡ record { resources = r; activities = acts; nodes = nodes } → t .acts ≤ mostActs
-      → t .nodes ≤ mostNodes → Answers s (record { verdict = v; tables = t })
-  answers low high {v} {t} is plan few small =
+  pub answers : 0 < length s → length s ≤ longest → {v : Verdict} {t : Tables} → v ≡ verdictOf (outcome s s₈ (tt {0}))
+      → planOf t ≡ whole → t .resources ≤ mostResources → t .acts ≤ mostActs → t .nodes ≤ mostNodes
+      → Answers s (record { verdict = v; tables = t })
+  answers low high {v} {t} is plan some few small =
       record {
         result =
-            answered s s₇ v t is ∙ ap (λ (p : Plan). concluded (outcome s s₇ p)) plan
+            answered s s₈ v t is ∙ ap (λ (p : Plan). concluded (outcome s s₈ p)) plan
             ∙ sym (parse-lines s low high ∙ ap concluded plan-lines);
+        resources = λ _. some;
         acts = λ _. few;
         nodes = λ _. small;
       }
@@ -135,6 +125,7 @@ refused-length {s} {p} e wrong =
       result =
           ap (λ (v : Verdict). resultOf (record { verdict = v; tables = p .tables })) e
           ∙ sym (elim-true (eqb (length s) 0 || ltb longest (length s)) _ _ wrong);
+      resources = λ a. never a;
       acts = λ a. never a;
       nodes = λ a. never a;
     }

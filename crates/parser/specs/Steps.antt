@@ -5,19 +5,31 @@ use mathlib.Core.List.{List}
 use mathlib.Core.Option.{Option, none, some}
 use mathlib.Core.Path.{_≡_}
 use lib.Dec.{leb}
-use lib.ListN.{length, drop}
-use Rattle.plan.specs.Limits.{between, nodeForm}
-use Rattle.plan.specs.Plan.{Node}
+use lib.ListN.{length, take, drop}
+use Rattle.base.specs.Lists.{every}
+use Rattle.plan.specs.Limits.{between, mostResources, isUnitCount, countsForm, actForm, nodeForm}
+use Rattle.plan.specs.Plan.{Activity, Node, activityOf, isActivity}
 use Rattle.plan.specs.declared.Refusal.{Refusal}
 use Rattle.plan.specs.declared.Refusal.the-variants.{Form, Range}
+use Rattle.format.specs.Lines.{Fields, matched}
 use Rattle.format.specs.Parse.{LinesRead, read, stop, Reader, aLine, tested, aCount, node-of, isRanged}
 use Rattle.line_reader.specs.Seen.{Seen, seen}
 use Rattle.line_reader.specs.declared.Line.{Line}
 use Rattle.parser.specs.declared.Cursor.{Cursor}
 use Rattle.parser.specs.declared.CountLine.{CountLine}
+use Rattle.parser.specs.declared.UnitCounts.{UnitCounts}
+use Rattle.parser.specs.declared.ActivityLine.{ActivityLine}
+
+-- An activity and a node, by the test of their ranges alone.
+abbrev pub rangedActivity : ℕ → ℕ → Reader Activity
+rangedActivity edition resources =
+    tested (isActivity edition resources) Range (aLine (actForm edition resources) (activityOf edition resources))
 
 abbrev pub rangedNode : ℕ → Reader Node
 rangedNode acts = tested (isRanged acts) Range (aLine nodeForm node-of)
+
+abbrev pub firstLine : Cursor
+firstLine = record { at = 0; line = 1; refusal = Form 1 }
 
 -- What a cursor says: the lines before it say `a` and the next is at hand, or a line is refused.
 unfoldable pub outcome : {A : Type 0} → List ℕ → Cursor → A → LinesRead A
@@ -62,3 +74,29 @@ pub record Reads {A : Type 0} (s : List ℕ) (before : Cursor) (reader : Reader 
 pub record ReadsCount (s : List ℕ) (before : Cursor) (form : List ℕ) (low high : ℕ) (r : CountLine) : Type 0 where
   pub reads : Reads s before (aCount form (between low high)) 1 (r .cursor) (r .value)
   pub most : r .value ≤ high
+
+-- A form is matched from one position to another, with the values vs.
+unfoldable pub matchedFrom : List ℕ → List ℕ → ℕ → Option Fields
+matchedFrom s form at = elim (leb at (length s)) [ true ↦ matched form (drop at s) | false ↦ none ]
+
+unfoldable pub fieldsTo : List ℕ → List ℕ → ℕ → Option Fields
+fieldsTo s vs next =
+    elim (leb next (length s)) [ true ↦ some (record { values = vs; rest = drop next s }) | false ↦ none ]
+
+pub record Matches (s form : List ℕ) (at next : ℕ) (vs : List ℕ) : Type 0 where
+  pub fields-are : fieldsTo s vs next ≡ matchedFrom s form at
+
+-- So many counts of units are read from a position on, and kept where all are in their range.
+pub record ReadsUnits (s : List ℕ) (at n : ℕ) (r : UnitCounts) : Type 0 where
+  pub counts : List ℕ
+  pub count : length counts ≡ n
+  pub matches : Matches s (countsForm n) at (r .next) counts
+  pub ranged-is : r .ranged ≡ every (isUnitCount 2) counts
+  pub kept : r .ranged ≡ true → take n (r .units) ≡ counts
+  pub size : length (r .units) ≡ mostResources
+
+-- An activity is read, with a row of units.
+pub record ReadsActivity (s : List ℕ) (before : Cursor) (reader : Reader Activity) (resources : ℕ) (r : ActivityLine)
+    : Type 0 where
+  pub reads : Reads s before reader 1 (r .cursor) (record { duration = r .duration; units = take resources (r .units) })
+  pub size : length (r .units) ≡ mostResources

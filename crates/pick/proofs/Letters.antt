@@ -8,7 +8,7 @@ use lib.Dec.{eqb}
 use borrow.Author.Tests.{ne-eqb}
 use Rattle.plan.specs.Plan.{Node, nodeOf}
 use Rattle.plan.specs.Plan
-use Rattle.term.specs.Term.{Term, Forest, act, seq, pll, xor, cons, size, nodes, nodesOfAll, firsts, others}
+use Rattle.term.specs.Term.{Term, Forest, act, seq, pll, cons, size, nodes, nodesOfAll, firsts, others}
 use Rattle.term.specs.Model.{count, product, childrenOf}
 use Rattle.variant.specs.Written.{joined, dissolved, dissolvedIn}
 use Rattle.variant.specs.Pick.{pick, pickEach}

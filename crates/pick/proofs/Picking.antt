@@ -15,8 +15,7 @@ use lib.Seq.{length-take-le}
 use Rattle.plan.specs.Limits.{mostNodes}
 use Rattle.plan.specs.Plan.{Node, nodeOf, nodesOf, nodesIn}
 use Rattle.plan.specs.Plan
-use Rattle.term.specs.Term.{Term, Forest, act, seq, pll, xor, nil, cons, size, nodes, nodesOfAll, firsts, others}
-use Rattle.term.specs.Term.{termOf}
+use Rattle.term.specs.Term.{Term, Forest, act, xor, nil, cons, size, nodes, nodesOfAll, firsts, others, termOf}
 use Rattle.term.specs.Variants.{variantCount}
 use Rattle.term.specs.Model.{count, product, total}
 use Rattle.term.proofs.Counting.{variantCount-count}
@@ -27,7 +26,7 @@ use Rattle.variant.specs.Pick.{pick, pickEach, pickOne}
 use Rattle.variant.proofs.Pick.{choice, pos-right, pick-is}
 use Rattle.variant.proofs.Picked.{pick-nodes}
 use Rattle.pick.specs.Picked.{Picks}
-use Rattle.pick.specs.Model.{onto, terms, Enough, first, rest, termsAt, termAt, Spanned, AmongAlternatives}
+use Rattle.pick.specs.Model.{onto, terms, Enough, first, termsAt, termAt, Spanned, AmongAlternatives}
 use Rattle.pick.specs.Model.{AlternativeFound, putIn, partsOf, partsOfEach, Drafted, drafted, Held, Grown}
 use Rattle.pick.specs.Model.{Going, OfTerm, OfEach}
 use Rattle.pick.specs.declared.Digits.{Digits}

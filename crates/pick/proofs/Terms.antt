@@ -106,17 +106,6 @@ split-nodes (suc k) (cons t f) =
       length-append (nodes t) (nodesOfAll (firsts k f)),
     )
 
-pub size-nodes : (f : Forest) → size f ≤ length (nodesOfAll f)
-unfolding size nodes
-size-nodes nil = omega arith
-size-nodes (cons t f) = omega (arith, size-nodes f, some-node t, length-append (nodes t) (nodesOfAll f))
-  where
-    some-node : (t : Term) → 1 ≤ length (nodes t)
-    some-node (act i) = omega arith
-    some-node (seq f) = omega arith
-    some-node (pll f) = omega arith
-    some-node (xor f) = omega arith
-
 pub total-firsts : (k : ℕ) (f : Forest) → total (firsts k f) ≤ total f
 unfolding firsts count
 total-firsts zero f = omega arith

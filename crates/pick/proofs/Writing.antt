@@ -50,11 +50,6 @@ unfolding joined
 joined-nil nil = refl
 joined-nil (cons t f) = ap (cons t) (joined-nil f)
 
-pub joined-assoc : (f g h : Forest) → joined (joined f g) h ≡ joined f (joined g h)
-unfolding joined
-joined-assoc nil g h = refl
-joined-assoc (cons t f) g h = ap (cons t) (joined-assoc f g h)
-
 -- A child is put before the others by itself, and has no more nodes then.
 data Put : Term → (Forest → Forest) → Type 0 where
   whole : {t : Term} → Put t (cons t)

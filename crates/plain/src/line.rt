@@ -1,12 +1,17 @@
 // A line of a plan file, read from a place on.
+use crate::RESOURCES;
 
-// A line as far as it is read: whether it is well formed, where it goes on, its letter, and its last two values.
+// The most values of a line: a duration, and a count for each resource.
+const VALUES: usize = 1 + RESOURCES;
+
+// A line as far as it is read: whether it is well formed, where it goes on, its letter, and its values, with 0 behind
+// them.
 pub struct Line {
     pub ok: bool,
     pub at: usize,
     pub letter: u8,
-    pub left: u32,
-    pub right: u32,
+    pub value: [u32; VALUES],
+    values: usize,
 }
 
 // The digits at a place, up to the first byte that is none, six at most.
@@ -34,8 +39,8 @@ fn start(file: &[u8], at: usize, key: &[u8]) -> Line {
         ok: true,
         at,
         letter: 0,
-        left: 0,
-        right: 0,
+        value: [0; VALUES],
+        values: 0,
     };
     for i in 0..key.len() {
         l = with_byte(file, l, key[i]);
@@ -67,15 +72,25 @@ fn digits_at(file: &[u8], at: usize) -> Digits {
     d
 }
 
+// One more value; no line has more than there is room for.
+fn stored(l: Line, n: u32) -> Line {
+    let at = l.values;
+    if VALUES <= at {
+        return l;
+    }
+    let mut m = l;
+    m.value[at] = n;
+    m.values = at + 1;
+    m
+}
+
 // A value is one to five digits with no leading zero.
 fn with_value(file: &[u8], l: Line) -> Line {
     let d = digits_at(file, l.at);
     let is_zero = byte(file, l.at) == b'0';
-    let mut m = l;
+    let mut m = stored(l, d.value);
     m.ok = l.ok & (0 < d.count) & (d.count < 6) & ((d.count == 1) | !is_zero);
     m.at = std::num::wrapping_add_usize(l.at, d.count);
-    m.left = l.right;
-    m.right = d.value;
     m
 }
 
@@ -87,22 +102,58 @@ fn with_letter(l: Line, b: u8) -> Line {
     m
 }
 
-// A line ends with a value and byte 10.
-fn ended(file: &[u8], l: Line) -> Line {
-    with_byte(file, with_value(file, l), b'\n')
+// The value at a place of the line, behind a comma unless it is the first.
+fn with_value_at(file: &[u8], l: Line, place: usize) -> Line {
+    if place == 0 {
+        return with_value(file, l);
+    }
+    with_value(file, with_byte(file, l, b','))
 }
 
-pub fn single(file: &[u8], at: usize, key: &[u8]) -> Line {
-    ended(file, start(file, at, key))
+// A line of so many values.
+pub fn listed(file: &[u8], at: usize, key: &[u8], values: usize) -> Line {
+    let mut l = start(file, at, key);
+    for place in 0..values {
+        l = with_value_at(file, l, place);
+    }
+    with_byte(file, l, b'\n')
 }
 
-pub fn activity(file: &[u8], at: usize) -> Line {
-    let l = with_value(file, start(file, at, b"act="));
-    ended(file, with_byte(file, l, b','))
+// An activity's line: its resource and its duration, or from edition 2 on its duration and a count for each resource.
+pub fn activity(file: &[u8], at: usize, edition: u32, resources: usize) -> Line {
+    if edition == 1 {
+        return listed(file, at, b"act=", 2);
+    }
+    listed(
+        file,
+        at,
+        b"act=",
+        std::num::wrapping_add_usize(resources, 1),
+    )
+}
+
+// The duration on an activity's line.
+pub fn duration(l: Line, edition: u32) -> u32 {
+    if edition == 1 { l.value[1] } else { l.value[0] }
+}
+
+// The units of a resource on an activity's line.
+pub fn units(l: Line, edition: u32, resource: usize) -> u32 {
+    if RESOURCES <= resource {
+        return 0;
+    }
+    if edition != 1 {
+        return l.value[resource + 1];
+    }
+    if l.value[0] as usize == resource {
+        1
+    } else {
+        0
+    }
 }
 
 pub fn node(file: &[u8], at: usize) -> Line {
     let l = start(file, at, b"node=");
-    let m = with_letter(l, byte(file, l.at));
-    ended(file, with_byte(file, m, b','))
+    let m = with_byte(file, with_letter(l, byte(file, l.at)), b',');
+    with_byte(file, with_value(file, m), b'\n')
 }

@@ -1,7 +1,10 @@
 // The tables of a plan, made of its lines one by one. Nodes come in prefix order, so each is a child of the last
 // group that still wants children.
 use crate::ACTS;
+use crate::COUNTS;
 use crate::NODES;
+use crate::RESOURCES;
+use crate::line::Line;
 use crate::text::Text;
 
 // Stands for no node: the parent of the root, and the node of an absent activity.
@@ -9,9 +12,12 @@ pub const NONE: usize = NODES;
 
 pub struct Plan {
     ok: bool,
+    // the units that each resource has
+    pub capacity: [u32; RESOURCES],
     pub acts: usize,
-    pub resource: [u32; ACTS],
     pub duration: [u32; ACTS],
+    // the units that activity i holds of resource r, at i * RESOURCES + r
+    pub units: [u32; COUNTS],
     pub nodes: usize,
     pub letter: [u8; NODES],
     pub number: [u32; NODES],
@@ -21,12 +27,13 @@ pub struct Plan {
     given: [u32; NODES],
 }
 
-fn empty() -> Plan {
+fn empty(capacity: [u32; RESOURCES]) -> Plan {
     Plan {
         ok: true,
+        capacity,
         acts: 0,
-        resource: [0; ACTS],
         duration: [0; ACTS],
+        units: [0; COUNTS],
         nodes: 0,
         letter: [0; NODES],
         number: [0; NODES],
@@ -42,14 +49,33 @@ fn refused(p: Plan) -> Plan {
     q
 }
 
-fn with_act(p: Plan, resource: u32, duration: u32) -> Plan {
+fn with_units(p: Plan, at: usize, resource: usize, units: u32) -> Plan {
+    if ACTS <= at {
+        return p;
+    }
+    if RESOURCES <= resource {
+        return p;
+    }
+    let mut q = p;
+    q.units[at * RESOURCES + resource] = units;
+    q
+}
+
+fn with_all_units(p: Plan, at: usize, l: Line, edition: u32) -> Plan {
+    let mut q = p;
+    for resource in 0..RESOURCES {
+        q = with_units(q, at, resource, crate::line::units(l, edition, resource));
+    }
+    q
+}
+
+fn with_act(p: Plan, l: Line, edition: u32) -> Plan {
     let at = p.acts;
     if ACTS <= at {
         return refused(p);
     }
-    let mut q = p;
-    q.resource[at] = resource;
-    q.duration[at] = duration;
+    let mut q = with_all_units(p, at, l, edition);
+    q.duration[at] = crate::line::duration(l, edition);
     q.acts = at + 1;
     q
 }
@@ -93,12 +119,12 @@ fn with_node(p: Plan, letter: u8, number: u32) -> Plan {
     q
 }
 
-fn with_acts(file: &[u8], p: Plan, from: usize, acts: u32) -> Plan {
+fn with_acts(file: &[u8], p: Plan, t: Text, acts: u32) -> Plan {
     let mut q = p;
-    let mut at = from;
+    let mut at = t.acts_at;
     for i in 0..acts {
-        let l = crate::line::activity(file, at);
-        q = with_act(q, l.left, l.right);
+        let l = crate::line::activity(file, at, t.edition, t.resources);
+        q = with_act(q, l, t.edition);
         at = l.at;
     }
     q
@@ -109,7 +135,7 @@ fn with_nodes(file: &[u8], p: Plan, from: usize, nodes: u32) -> Plan {
     let mut at = from;
     for i in 0..nodes {
         let l = crate::line::node(file, at);
-        q = with_node(q, l.letter, l.right);
+        q = with_node(q, l.letter, l.value[0]);
         at = l.at;
     }
     q
@@ -117,7 +143,8 @@ fn with_nodes(file: &[u8], p: Plan, from: usize, nodes: u32) -> Plan {
 
 // The tables of a text that is not refused.
 pub fn read(file: &[u8], t: Text) -> Plan {
-    let p = with_acts(file, empty(), t.acts_at, t.acts);
+    let capacity = t.capacity;
+    let p = with_acts(file, empty(capacity), t, t.acts);
     with_nodes(file, p, t.nodes_at, t.nodes)
 }
 

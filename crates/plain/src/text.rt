@@ -2,23 +2,29 @@
 use crate::ACTS;
 use crate::LONGEST;
 use crate::NODES;
+use crate::RESOURCES;
 use crate::line::Line;
 
-const BYTES: usize = 983;
+const BYTES: usize = 2175;
 
-const RESOURCES: usize = 16;
+// The most units of a resource, and the most that an activity holds of one.
+const UNITS: u32 = 15;
 
 // One more than the lines of the longest plan.
-const LINES: u64 = (5 + ACTS + NODES) as u64;
+const LINES: u64 = (5 + RESOURCES + ACTS + NODES) as u64;
 
-// The number and the figure of the refusal, 0 where there is none; the place of the next line; the latest count; how
-// many resources, activities and nodes there are; and the places of the first activity's line and the first node's.
+// The number and the figure of the refusal, 0 where there is none; the place of the next line; the latest count; the
+// edition; how many resources, activities and nodes there are; the units of the resources and how many lines have given
+// them; and the places of the first activity's line and the first node's.
 pub struct Text {
     pub number: u64,
     pub figure: u64,
     at: usize,
     count: u32,
-    resources: u32,
+    pub edition: u32,
+    pub resources: usize,
+    pub capacity: [u32; RESOURCES],
+    capacities: usize,
     pub acts: u32,
     pub nodes: u32,
     pub acts_at: usize,
@@ -46,21 +52,41 @@ fn with_line(t: Text, l: Line, fits: bool, line: u64) -> Text {
 }
 
 fn with_edition(file: &[u8], t: Text, line: u64) -> Text {
-    let l = crate::line::single(file, t.at, b"plan=");
-    with_line(t, l, l.right == 1, line)
+    let l = crate::line::listed(file, t.at, b"plan=", 1);
+    let edition = l.value[0];
+    let mut u = with_line(t, l, (edition == 1) | (edition == 2), line);
+    u.edition = edition;
+    u
 }
 
 // A line of one count, from 1 to the most there may be.
 fn with_count(file: &[u8], t: Text, key: &[u8], most: usize, line: u64) -> Text {
-    let l = crate::line::single(file, t.at, key);
-    let mut u = with_line(t, l, (0 < l.right) & (l.right as usize <= most), line);
-    u.count = l.right;
+    let l = crate::line::listed(file, t.at, key, 1);
+    let count = l.value[0];
+    let mut u = with_line(t, l, (0 < count) & (count as usize <= most), line);
+    u.count = count;
     u
 }
 
 fn with_resources(file: &[u8], t: Text, line: u64) -> Text {
     let mut u = with_count(file, t, b"res=", RESOURCES, line);
-    u.resources = u.count;
+    u.resources = u.count as usize;
+    u
+}
+
+// From edition 2 on each resource has a line with its units; before, it has one unit.
+fn has_capacities_left(t: Text) -> bool {
+    (t.edition != 1) & (t.capacities < t.resources)
+}
+
+fn with_capacity(file: &[u8], t: Text, line: u64) -> Text {
+    let mut u = with_count(file, t, b"cap=", UNITS as usize, line);
+    let at = t.capacities;
+    if RESOURCES <= at {
+        return u;
+    }
+    u.capacity[at] = u.count;
+    u.capacities = at + 1;
     u
 }
 
@@ -71,10 +97,33 @@ fn with_acts(file: &[u8], t: Text, line: u64) -> Text {
     u
 }
 
+// Does an activity hold no more units of each resource than it may?
+fn is_within(l: Line, edition: u32, most: [u32; RESOURCES]) -> bool {
+    for resource in 0..RESOURCES {
+        if most[resource] < crate::line::units(l, edition, resource) {
+            return false;
+        }
+    }
+    true
+}
+
+// An activity's duration, its resource where it has one, and its units: more than its resource has is tested last.
 fn with_act(file: &[u8], t: Text, line: u64) -> Text {
-    let l = crate::line::activity(file, t.at);
-    let fits = (l.left < t.resources) & (0 < l.right) & (l.right <= LONGEST);
-    with_line(t, l, fits, line)
+    let l = crate::line::activity(file, t.at, t.edition, t.resources);
+    let duration = crate::line::duration(l, t.edition);
+    let is_placed = (t.edition != 1) | ((l.value[0] as usize) < t.resources);
+    let fits = is_placed & (0 < duration) & (duration <= LONGEST);
+    let u = with_line(
+        t,
+        l,
+        fits && is_within(l, t.edition, [UNITS; RESOURCES]),
+        line,
+    );
+    let capacity = t.capacity;
+    if (u.number == 0) && !is_within(l, t.edition, capacity) {
+        return refused(u, 11, line);
+    }
+    u
 }
 
 fn with_nodes(file: &[u8], t: Text, line: u64) -> Text {
@@ -88,13 +137,14 @@ fn with_nodes(file: &[u8], t: Text, line: u64) -> Text {
 fn with_node(file: &[u8], t: Text, line: u64) -> Text {
     let l = crate::line::node(file, t.at);
     let is_group = l.letter != b'a';
+    let number = l.value[0];
     let fits = if is_group {
-        (0 < l.right) & (l.right < NODES as u32)
+        (0 < number) & (number < NODES as u32)
     } else {
-        l.right < t.acts
+        number < t.acts
     };
     let u = with_line(t, l, fits, line);
-    if (u.number == 0) & is_group & (l.right == 1) {
+    if (u.number == 0) & is_group & (number == 1) {
         return refused(u, 10, line);
     }
     u
@@ -109,9 +159,14 @@ fn with_end(file: &[u8], t: Text, line: u64) -> Text {
     }
 }
 
+// The line with the number of activities.
+fn line_of_acts(t: Text) -> u64 {
+    std::num::wrapping_add_u64(3, t.capacities as u64)
+}
+
 // The lines that come after the number of activities.
 fn with_listed(file: &[u8], t: Text, line: u64) -> Text {
-    let acts = std::num::wrapping_add_u64(3, t.acts as u64);
+    let acts = std::num::wrapping_add_u64(line_of_acts(t), t.acts as u64);
     if line <= acts {
         return with_act(file, t, line);
     }
@@ -135,7 +190,10 @@ fn step(file: &[u8], t: Text, line: u64) -> Text {
     if line == 2 {
         return with_resources(file, t, line);
     }
-    if line == 3 {
+    if has_capacities_left(t) {
+        return with_capacity(file, t, line);
+    }
+    if line == line_of_acts(t) {
         return with_acts(file, t, line);
     }
     with_listed(file, t, line)
@@ -147,7 +205,10 @@ pub fn read(file: &[u8]) -> Text {
         figure: 0,
         at: 0,
         count: 0,
+        edition: 0,
         resources: 0,
+        capacity: [1; RESOURCES],
+        capacities: 0,
         acts: 0,
         nodes: 0,
         acts_at: 0,

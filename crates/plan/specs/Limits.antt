@@ -1,10 +1,10 @@
--- The limits and the line forms of the plan file, in the edition in force. A later edition changes this file.
-use Prim.Native.Nat.{ℕ, _*_, _^_}
+-- The limits and the line forms of the plan file, in all its editions. A later edition changes this file.
+use Prim.Native.Nat.{ℕ, zero, suc, _*_, _^_}
 use Prim.Native.Char.{code}
 use Prim.Native.String.{String}
-use mathlib.Core.Bool.{Bool, _&&_}
-use mathlib.Core.List.{List, [], _∷_}
-use lib.Dec.{leb, eqb}
+use mathlib.Core.Bool.{Bool, cond, _&&_}
+use mathlib.Core.List.{List, [], _∷_, _++_}
+use lib.Dec.{leb}
 
 -- The bytes of a quoted text.
 abbrev pub bytes : String → List ℕ
@@ -14,9 +14,22 @@ bytes (String._∷_ c s) = code c ∷ bytes s
 abbrev pub between : ℕ → ℕ → ℕ → Bool
 between low high n = leb low n && leb n high
 
--- No accepted file is longer.
+-- No accepted file is longer, of any edition.
 abbrev pub longest : ℕ
-longest = 983
+longest = 2175
+
+-- The editions are numbered from 1 on.
+abbrev pub lastEdition : ℕ
+lastEdition = 2
+
+-- From the second edition on a plan says how many units a resource has, and how many of each an activity holds. In the
+-- first, a resource has one unit, and an activity holds that of its own resource alone.
+abbrev pub saysUnits : ℕ → Bool
+saysUnits edition = leb 2 edition
+
+-- The units of one resource.
+abbrev pub mostUnits : ℕ → ℕ
+mostUnits edition = cond (saysUnits edition) 15 1
 
 -- A value has no more decimal digits than this.
 abbrev pub mostDigits : ℕ
@@ -28,10 +41,6 @@ mostVariants = 4096
 -- A resource is a device in the paper's words.
 abbrev pub mostResources : ℕ
 mostResources = 16
-
--- A number and a resource as one number: so many times the number, plus the resource.
-abbrev pub packing : ℕ
-packing = mostResources
 
 abbrev pub mostActs : ℕ
 mostActs = 24
@@ -62,10 +71,16 @@ abbrev pub mostChildren : ℕ
 mostChildren = 63
 
 abbrev pub isEdition : ℕ → Bool
-isEdition n = eqb n 1
+isEdition n = between 1 lastEdition n
 
 abbrev pub isResourceCount : ℕ → Bool
 isResourceCount n = between 1 mostResources n
+
+abbrev pub isCapacity : ℕ → ℕ → Bool
+isCapacity edition n = between 1 (mostUnits edition) n
+
+abbrev pub isUnitCount : ℕ → ℕ → Bool
+isUnitCount edition n = leb n (mostUnits edition)
 
 abbrev pub isActCount : ℕ → Bool
 isActCount n = between 1 mostActs n
@@ -86,11 +101,20 @@ editionForm = bytes "plan=#\n"
 abbrev pub resourcesForm : List ℕ
 resourcesForm = bytes "res=#\n"
 
+abbrev pub capacityForm : List ℕ
+capacityForm = bytes "cap=#\n"
+
 abbrev pub actsForm : List ℕ
 actsForm = bytes "acts=#\n"
 
-abbrev pub actForm : List ℕ
-actForm = bytes "act=#,#\n"
+-- `act=r,d` in the first edition, then `act=d,u0,..` with a count for each resource.
+unfoldable pub countsForm : ℕ → List ℕ
+countsForm zero = []
+countsForm (suc n) = bytes ",#" ++ countsForm n
+
+abbrev pub actForm : ℕ → ℕ → List ℕ
+actForm edition resources =
+    cond (saysUnits edition) (bytes "act=#" ++ (countsForm resources ++ bytes "\n")) (bytes "act=#,#\n")
 
 abbrev pub nodesForm : List ℕ
 nodesForm = bytes "nodes=#\n"

@@ -1,11 +1,16 @@
 // A plan as the program keeps it, and the refusals of every call.
 ghost use Prim.Native.Nat.{ℕ};
 ghost use mathlib.Core.Path.{_≡_};
+ghost use Rattle.plan.specs.Limits.{saysUnits};
 ghost use Rattle.plan.specs.Refusals.{numberOf, figureOf};
 ghost use Rattle.plan.specs.Plan.{letterOf, nodeOf, noTables};
 
 // The limits of the plan file, as in `specs/Limits.antt`, each in the type of what it bounds.
-pub const MOST_RESOURCES: u16 = 16;
+pub const LAST_EDITION: u32 = 2;
+
+pub const MOST_RESOURCES: usize = 16;
+
+pub const MOST_UNITS: u32 = 15;
 
 pub const MOST_ACTS: usize = 24;
 
@@ -15,7 +20,7 @@ pub const MOST_NODES: usize = 64;
 
 pub const MOST_CHILDREN: u8 = 63;
 
-pub const LONGEST: usize = 983;
+pub const LONGEST: usize = 2175;
 
 pub const MOST_VARIANTS: u32 = 4096;
 
@@ -24,9 +29,18 @@ pub const EDITION_FORM: [u8; 7] = *b"plan=#\n";
 
 pub const RESOURCES_FORM: [u8; 6] = *b"res=#\n";
 
+pub const CAPACITY_FORM: [u8; 6] = *b"cap=#\n";
+
 pub const ACTS_FORM: [u8; 7] = *b"acts=#\n";
 
+// `act=r,d` in the first edition; then `act=d`, a count for each resource and the end of the line.
 pub const ACT_FORM: [u8; 8] = *b"act=#,#\n";
+
+pub const DURATION_FORM: [u8; 5] = *b"act=#";
+
+pub const COUNT_FORM: [u8; 2] = *b",#";
+
+pub const LINE_END: [u8; 1] = *b"\n";
 
 pub const NODES_FORM: [u8; 8] = *b"nodes=#\n";
 
@@ -38,6 +52,7 @@ pub enum Refusal {
     Form(u64),
     Range(u64),
     GroupOfOne(u64),
+    OverCapacity(u64),
     NotOneTerm,
     Twice,
     TooManyVariants,
@@ -54,6 +69,7 @@ pub fn number(r: Refusal) -> u64
         Refusal::Form(_) => 2,
         Refusal::Range(_) => 3,
         Refusal::GroupOfOne(_) => 10,
+        Refusal::OverCapacity(_) => 11,
         Refusal::NotOneTerm => 4,
         Refusal::Twice => 5,
         Refusal::TooManyVariants => 6,
@@ -71,6 +87,7 @@ pub fn figure(r: Refusal) -> u64
         Refusal::Form(line) => line,
         Refusal::Range(line) => line,
         Refusal::GroupOfOne(line) => line,
+        Refusal::OverCapacity(line) => line,
         Refusal::NotOneTerm => 0,
         Refusal::Twice => 0,
         Refusal::TooManyVariants => 0,
@@ -80,13 +97,19 @@ pub fn figure(r: Refusal) -> u64
     }
 }
 
-// The values of a plan file: a resource and a duration for each of `acts` activities, and for each of `nodes` nodes
-// its letter and its number. What stands past those counts means nothing.
+// The cells of the table of units: a row of MOST_RESOURCES for each activity.
+pub const UNIT_CELLS: usize = MOST_ACTS * MOST_RESOURCES;
+
+// The values of a plan file: the capacity of each of `resources` resources, a duration for each of `acts` activities
+// and the units that it holds of each resource, and for each of `nodes` nodes its letter and its number. What stands
+// past those counts means nothing.
 pub struct Tables {
-    pub resources: u16,
+    pub edition: u16,
+    pub resources: usize,
+    pub capacity: [u8; MOST_RESOURCES],
     pub acts: usize,
-    pub resource: [u16; MOST_ACTS],
     pub duration: [u16; MOST_ACTS],
+    pub units: [u8; UNIT_CELLS],
     pub nodes: usize,
     pub letter: [u8; MOST_NODES],
     pub number: [u8; MOST_NODES],
@@ -98,10 +121,12 @@ impl Tables {
         ensures { λ r. ⌜ r ≡ noTables ⌝ }
     {
         Tables {
+            edition: 0,
             resources: 0,
+            capacity: [0; MOST_RESOURCES],
             acts: 0,
-            resource: [0; MOST_ACTS],
             duration: [0; MOST_ACTS],
+            units: [0; UNIT_CELLS],
             nodes: 0,
             letter: [0; MOST_NODES],
             number: [0; MOST_NODES],
@@ -119,4 +144,11 @@ pub fn letter_of(letter: u32) -> u8
         112 => b'p',
         _ => b'x',
     }
+}
+
+// Whether a plan of an edition says the units of its resources and activities.
+pub fn says_units(edition: u16) -> bool
+    ensures { λ r. ⌜ r ≡ saysUnits edition ⌝ }
+{
+    2 <= edition
 }

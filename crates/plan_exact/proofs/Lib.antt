@@ -1,5 +1,6 @@
--- From the search of each variant to the plan as a whole.
+-- From the sessions of each variant to the plan as a whole.
 pub mod Variant
+pub mod Existing
 pub mod Found
 pub mod Union
 pub mod Pairs

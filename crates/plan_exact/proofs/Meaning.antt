@@ -68,23 +68,23 @@ module _ (p : Plan) (t : Term) (v : ℕ) (c : HasVariant p t v) (row : List ℕ)
         long = s .long;
         marks = session-marks p t v c row m;
         keeps =
-            keeps-is p w (c .valid .ranges) inside (startsOf row)
+            keeps-is p w inside (startsOf row)
             (feasible-of P (startsOf row) (s .is-active .is-feasible));
         least =
             λ j t present l kept.
             s .is-active .least j (has-of p w j (inside j present) present) refl t l
             (feasible-is P (moved (startsOf row) j t)
-            (keeps-of p w (c .valid .ranges) inside (moved (startsOf row) j t) kept));
+            (keeps-of p w inside (moved (startsOf row) j t) kept));
       }
 
   is-active : ActiveSession p w row → Active P (startsOf row)
   is-active a =
       record {
-        is-feasible = feasible-is P (startsOf row) (keeps-of p w (c .valid .ranges) inside (startsOf row) (a .keeps));
+        is-feasible = feasible-is P (startsOf row) (keeps-of p w inside (startsOf row) (a .keeps));
         least =
             λ j h free t l f.
             a .least j t (has-member p w j h) l
-            (keeps-is p w (c .valid .ranges) inside (moved (startsOf row) j t)
+            (keeps-is p w inside (moved (startsOf row) j t)
             (feasible-of P (moved (startsOf row) j t) f));
       }
 
@@ -94,7 +94,7 @@ module _ (p : Plan) (t : Term) (v : ℕ) (c : HasVariant p t v) (row : List ℕ)
       box.session-mem P mark row (sound p (c .valid .ranges) w)
       (record { long = a .long; marked = λ i l z. a .marks i l .1 z; is-active = is-active a })
 
--- At the first place where two sessions of a variant differ its activity is present: an absent one has the mark in both.
+-- Where two sessions of a variant first differ, the activity is present: an absent one has the mark in both.
 sooner : {p : Plan} (w : Term) (a b : List ℕ) → ActiveSession p w a → ActiveSession p w b → Before a b → Sooner w a b
 sooner w a b r s h =
     let d : Smaller a b = before-smaller a b (r .long ∙ sym (s .long)) h in
@@ -282,7 +282,8 @@ module _ (s : List ℕ) (n : ℕ) (before after : List ℕ) (p : Plan) (t : Term
       → ListingOf s n before after
   within false b h = never (sym (ap (λ (o : Outcome ListAnswer). o .answer) h))
   within true false h = never (sym (ap (λ (o : Outcome ListAnswer). o .answer) h))
-  within true true h = listed (ap (λ (o : Outcome ListAnswer). o .answer) h) (ap (λ (o : Outcome ListAnswer). o .area) h)
+  within true true h =
+      listed (ap (λ (o : Outcome ListAnswer). o .answer) h) (ap (λ (o : Outcome ListAnswer). o .area) h)
 
 module _ (s : List ℕ) (cap n : ℕ) (before after : List ℕ) where
   by-verdict : (o : Verdict) → judge s ≡ o → listBy o cap before ≡ record { answer = Listed n; area = after }

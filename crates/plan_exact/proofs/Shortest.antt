@@ -1,11 +1,11 @@
 -- The first shortest pair of a valid plan: none of the pairs is shorter, those that are as short are not before it, and
 -- no feasible session of any variant is shorter.
-use Prim.Native.Nat.{ℕ, _*_, _≤_, _<_}
+use Prim.Native.Nat.{ℕ, _≤_, _<_}
 use native.Mathlib.Nat.{le-antisymm, not-suc-le-zero}
 use native.Mathlib.Omega.{arith}
 use mathlib.Core.Bool.{Bool}
 use mathlib.Core.Logic.{⊎-elim}
-use mathlib.Core.Path.{_≡_, sym, ap, subst, _∙_}
+use mathlib.Core.Path.{_≡_, sym, subst, _∙_}
 use mathlib.Core.List.{List, [], _∷_, map, List·Memᴰ, Memᴰ·map, Memᴰ·of-map}
 use lib.Dec.{eqb}
 use lib.ListN.{length}
@@ -19,16 +19,16 @@ use Rattle.term.specs.Term.{Term}
 use Rattle.term.specs.Valid.{Valid}
 use Rattle.term.specs.Variants.{variantCount}
 use Rattle.timetable.specs.Mark.{mark}
-use Rattle.schedule.specs.Bounds.{Chain, chainLength, demand, work}
+use Rattle.schedule.specs.Bounds.{Chain, chainLength, loadOf, work}
 use Rattle.schedule.specs.Project.{Project}
 use Rattle.schedule.specs.Schedule.{Starts, makespan}
 use Rattle.schedule.specs.Sessions.{startsOf}
 use Rattle.schedule.proofs.Reflect.{Feasible, Active}
-use Rattle.schedule.proofs.Lower.{chain-bound, demand-bound, work-bound}
+use Rattle.schedule.proofs.Lower.{chain-bound, load-bound, work-bound}
 use Rattle.schedule.proofs.Box.{no-longer-session, session-is, session-mem}
 use Rattle.variant.specs.Project.{variantAt, projectOf}
 use Rattle.variant.specs.Pairs.{pairs, pairCount}
-use Rattle.variant.proofs.Instance.{one-unit, sound, unfixed, gapless}
+use Rattle.variant.proofs.Instance.{capacity-between, sound, unfixed, gapless}
 use Rattle.answers.specs.Shortest.{makespanIn, rowSpan, shortestPairs, firstShortest}
 use Rattle.plan_exact.proofs.Union.{Lowest, lowest, same-span}
 use Rattle.plan_exact.proofs.Pairs.{Pair, pair-is, pair-mem}
@@ -111,15 +111,10 @@ module _ (p : Plan) (t : Term) (valid : Valid p t) where
     pub first-chains : (i : ℕ) (js : List ℕ) → Chain P i js → chainLength P i js ≤ makespan P (startsOf ss)
     first-chains i js chain = chain-bound P (startsOf ss) (first-active .is-feasible) i js chain
 
-    pub first-loads : (r : ℕ) → r < p .resources → demand P r ≤ makespan P (startsOf ss)
+    pub first-loads : (r : ℕ) → r < length (p .capacities) → loadOf P r ≤ makespan P (startsOf ss)
+    unfolding projectOf
     first-loads r l =
-        let on : r < P .resources = unfold projectOf in l in
-        let single : P .capacity r ≡ 1 = one-unit p (valid .ranges) (variantAt t v) .single r on in
-        omega (
-          arith,
-          demand-bound P (startsOf ss) (first-active .is-feasible) r on,
-          ap (makespan P (startsOf ss) *_) single,
-        )
+        load-bound P (startsOf ss) (first-active .is-feasible) r l (capacity-between p (valid .ranges) r l .0)
 
     pub first-at-most : makespan P (startsOf ss) ≤ work P
     first-at-most =

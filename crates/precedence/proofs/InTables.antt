@@ -1,16 +1,12 @@
 -- A variant's nodes are those of its dissolved term, which has the variant's activities and order.
-use Prim.Native.Nat.{ℕ, zero, suc, _<_}
-use native.Mathlib.Nat.{not-suc-le-zero}
-use native.Mathlib.Omega.{arith}
+use Prim.Native.Nat.{ℕ, _<_}
 use mathlib.Core.Bool.{true}
-use mathlib.Core.List.{List, [], _∷_}
+use mathlib.Core.List.{List}
 use mathlib.Core.Option.{some}
-use mathlib.Core.Path.{_≡_, refl, sym, ap, _∙_}
-use lib.ListN.{length, getD, take}
-use lib.Seq.{getD-take}
+use mathlib.Core.Path.{_≡_, ap, _∙_}
+use lib.ListN.{length}
 use Rattle.plan.specs.Limits.{mostActs}
-use Rattle.plan.specs.Plan.{Activity, activitiesOf, planOf, isNode, nodesIn}
-use Rattle.plan.specs.declared.Tables.{Tables}
+use Rattle.plan.specs.Plan.{planOf, isNode, nodesIn}
 use Rattle.base.specs.Lists.{every}
 use Rattle.format.proofs.Plans.{plan-sound}
 use Rattle.format.proofs.Tests.{between-facts}
@@ -18,31 +14,18 @@ use Rattle.term.specs.Term.{Term, nodes, termOf}
 use Rattle.term.specs.Variants.{member, variantCount}
 use Rattle.term.proofs.Reading.{termOf-nodes}
 use Rattle.term_reader.proofs.Tables.{every-more}
-use Rattle.variant.specs.Project.{activityAt, variantAt}
-use Rattle.variant.specs.Tables.{IsVariant, OrderOf}
+use Rattle.variant.specs.Project.{variantAt}
+use Rattle.variant.specs.Tables.{OrderOf}
 use Rattle.variant.specs.Written.{dissolved, variantPlan}
 use Rattle.variant.proofs.Dissolve.{dissolved-activities, dissolved-precedes}
 use Rattle.variant.proofs.RoundTrip.{variant-plan}
-use Rattle.judge.specs.Campaign.{Ranged, HoldsVariant, HoldsPlan}
-use Rattle.judge.proofs.Ranges.{acts-are}
+use Rattle.judge.specs.Campaign.{HoldsVariant, HoldsPlan}
 use Rattle.judge.specs.declared.Campaign.{Campaign}
 use Rattle.pick.specs.Picked.{Picks}
 use Rattle.pick.specs.declared.Picked.{Picked}
 use Rattle.precedence.specs.Order.{OneTerm, Ordered}
-use Rattle.precedence.specs.declared.Order.{Order}
-use Rattle.sets.specs.Sets.{most}
 use Rattle.variant.specs.declared.Variant.{Variant}
-
--- An entry of a plan's activities is read off the two columns.
-abbrev entryOf : List ℕ → List ℕ → ℕ → Activity
-entryOf rs ds i = record { resource = getD rs i 0; duration = getD ds i 0 }
-
-entry : (rs ds : List ℕ) (i : ℕ) → i < length (activitiesOf rs ds)
-    → getD (activitiesOf rs ds) i (record { resource = 0; duration = 0 }) ≡ entryOf rs ds i
-entry [] ds i h = absurd (not-suc-le-zero h)
-entry (r ∷ rs) [] i h = absurd (not-suc-le-zero h)
-entry (r ∷ rs) (d ∷ ds) zero h = refl
-entry (r ∷ rs) (d ∷ ds) (suc i) h = entry rs ds i (omega arith)
+use Rattle.sets.specs.Sets.{most}
 
 -- The order of the dissolved term is the variant's.
 order-dissolved : (w : Term) (present : ℕ) (preds : List ℕ) → OrderOf (dissolved w) present preds
@@ -80,50 +63,10 @@ module _ (c : Campaign) (t : Term) (v : ℕ) (h : HoldsVariant c t v) where
           read = reads-variant;
         }
 
-    abbrev tables : Tables
-    tables = c .tables
-
-    abbrev N : ℕ
-    N = tables .acts
-
-    ranged : Ranged tables
-    ranged = h .plan .ranged
-
-    activity-is : (i : ℕ) → i < N
-        → activityAt (planOf tables) i ≡ entryOf (take N (tables .resource)) (take N (tables .duration)) i
-    activity-is i l =
-        entry (take N (tables .resource)) (take N (tables .duration)) i (omega (arith, acts-are tables ranged))
-
-    duration-at : (i : ℕ) → i < N → getD (tables .duration) i 0 ≡ activityAt (planOf tables) i .duration
-    duration-at i l =
-        sym (getD-take N (tables .duration) i 0 l) ∙ sym (ap (λ (a : Activity). a .duration) (activity-is i l))
-
-    resource-at : (i : ℕ) → i < N → getD (tables .resource) i 0 ≡ activityAt (planOf tables) i .resource
-    resource-at i l =
-        sym (getD-take N (tables .resource) i 0 l) ∙ sym (ap (λ (a : Activity). a .resource) (activity-is i l))
-
-    -- The tables with that order.
-    abbrev with-order : Order → Variant
-    with-order o =
-        record {
-          acts = N;
-          resource = tables .resource;
-          duration = tables .duration;
-          present = o .present;
-          preds = o .preds;
-        }
-
-    pub held : (o : Order) → Ordered (r .letter) (r .number) (r .nodes) o
-        → IsVariant (planOf tables) (variantAt t v) (with-order o)
+    pub held : (o : Variant) → Ordered (r .letter) (r .number) (r .nodes) o
+        → OrderOf (variantAt t v) (o .present) (o .preds)
     held o given =
-        record {
-          acts = sym (acts-are tables ranged);
-          durations = duration-at;
-          resources = resource-at;
-          order =
-              order-dissolved (variantAt t v) (o .present) (o .preds)
-              (given (dissolved (variantAt t v)) reads-variant);
-        }
+        order-dissolved (variantAt t v) (o .present) (o .preds) (given (dissolved (variantAt t v)) reads-variant)
 
 -- The nodes of a variant are one whole term, whichever number was picked.
 pub picked-term : (c : Campaign) (t : Term) → HoldsPlan c t → {v : ℕ} {r : Picked} → Picks t v r → v < variantCount t

@@ -9,7 +9,7 @@ use native.Mathlib.Decide.{ℕ-discrete}
 use native.Mathlib.Omega.{arith}
 use lib.Bits.{bitOr, or-lt}
 use lib.Dec.{lit<, eqb}
-use lib.ListN.{length, getD, set}
+use lib.ListN.{length, getD, set, length-set}
 use lib.Pow.{pow-lt}
 use lib.Seq.{getD-set-same, getD-set-other}
 use borrow.Author.Tests.{eq-eqb, ne-eqb}
@@ -23,15 +23,16 @@ use Rattle.precedence.specs.declared.Walk.{Walk}
 use Rattle.precedence.specs.Walk.{afterOf, Low, OrderJoined, among}
 
 -- The same activities and order in other words.
-pub joins-as : {acts acts′ : List ℕ} {order order′ : ℕ → ℕ → Bool} {next next′ before : ℕ} {preds : List ℕ} {w : Walk}
-    → acts′ ≡ acts
-    → ((i j : ℕ) → order′ i j ≡ order i j) → next ≡ next′ → OrderJoined acts order next before preds w
-    → OrderJoined acts′ order′ next′ before preds w
+pub joins-as : {acts acts′ : List ℕ} {order order′ : ℕ → ℕ → Bool} {next next′ before : ℕ}
+    {preds found : List ℕ} {w : Walk} → acts′ ≡ acts
+    → ((i j : ℕ) → order′ i j ≡ order i j) → next ≡ next′ → OrderJoined acts order next before preds found w
+    → OrderJoined acts′ order′ next′ before preds found w
 joins-as {before = before} {preds = preds} {w = w} a o n h =
     record {
       goes = h .goes ∙ n;
       small = h .small;
       members = λ i. h .members i ∙ ap (λ (l : List ℕ). member i l) (sym a);
+      long = h .long;
       low = h .low;
       preceded =
           λ i j. h .preceded i j
@@ -60,17 +61,18 @@ module _ (i before new : ℕ) (preds : List ℕ) (l : i < length preds) (e : new
       (λ d. rw (d, getD-set-same preds i new 0 l, e) (or-lt most (getD preds i 0) before (h .each i) (h .outer)))
       (λ d. rw (getD-set-other preds i j new 0 d) (h .each j))
 
-pub one : (i next before single new : ℕ) (preds : List ℕ) → i < most → length preds ≡ most → Low before preds
+pub one : (i next before single new : ℕ) (preds : List ℕ) → i < most → Low before preds
     → single ≡ 2 ^ i → new ≡ bitOr (getD preds i 0) before
-    → OrderJoined (activities (act i)) (precedes (act i)) next before preds
-    (record { next = next; set = single; preds = set preds i new })
+    → OrderJoined (activities (act i)) (precedes (act i)) next before preds (set preds i new)
+    (record { next = next; set = single })
 unfolding activities member precedes
-one i next before single new preds l k h s e =
-    let inside : i < length preds = omega arith in
+one i next before single new preds l h s e =
+    let inside : i < length preds = omega (arith, h .long) in
     record {
       goes = refl;
       small = rw s (pow-lt l);
       members = λ j. rw s (has-single i j ∙ sym (or-false (eqb j i)));
+      long = length-set preds i new;
       low = marked-low i before new preds inside e h;
       preceded = λ m j. marked i before new preds inside e j m;
     }
@@ -78,14 +80,15 @@ one i next before single new preds l k h s e =
 -- ---- no child
 
 pub none : (inSequence : Bool) (next before : ℕ) (preds : List ℕ) → Low before preds
-    → OrderJoined (activitiesOfAll nil) (among inSequence nil) next before preds
-    (record { next = next; set = 0; preds = preds })
+    → OrderJoined (activitiesOfAll nil) (among inSequence nil) next before preds preds
+    (record { next = next; set = 0 })
 unfolding activities member precedes
 none inSequence next before preds h =
     record {
       goes = refl;
       small = lit< tt;
       members = λ i. has-none i;
+      long = refl;
       low = h .each;
       preceded = λ i j.
           sym
@@ -107,12 +110,15 @@ after-low : (inSequence : Bool) (before child : ℕ) → before < 2 ^ most → c
 after-low true before child p q = or-lt most before child p q
 after-low false before child p q = p
 
-pub low-after : (inSequence : Bool) {acts : List ℕ} {order : ℕ → ℕ → Bool} {next before : ℕ} {preds : List ℕ}
-    (w : Walk)
-    → Low before preds
-    → OrderJoined acts order next before preds w → Low (afterOf inSequence before (w .set)) (w .preds)
+pub low-after : (inSequence : Bool) {acts : List ℕ} {order : ℕ → ℕ → Bool} {next before : ℕ}
+    {preds found : List ℕ} (w : Walk) → Low before preds
+    → OrderJoined acts order next before preds found w → Low (afterOf inSequence before (w .set)) found
 low-after inSequence {before = before} w l h =
-    record { outer = after-low inSequence before (w .set) (l .outer) (h .small); each = h .low }
+    record {
+      outer = after-low inSequence before (w .set) (l .outer) (h .small);
+      long = h .long ∙ l .long;
+      each = h .low;
+    }
 
 reorder : (p a b x y o w : Bool) → p || a || o || (b || x) || (y || w) ≡ p || (a || b) || (x || y || (o || w))
 reorder true a b x y o w = refl
@@ -139,10 +145,10 @@ regroup p b t f c s o e w =
     )
     (reorder p (t && b) (f && b) (c && (s && f)) (c && e) o w)
 
-module _ (inSequence : Bool) (t : Term) (f : Forest) (middle next before : ℕ) (preds : List ℕ) (first rest : Walk)
-    (child : OrderJoined (activities t) (precedes t) middle before preds first)
+module _ (inSequence : Bool) (t : Term) (f : Forest) (middle next before : ℕ) (preds between found : List ℕ)
+    (first rest : Walk) (child : OrderJoined (activities t) (precedes t) middle before preds between first)
     (others : OrderJoined (activitiesOfAll f) (among inSequence f) next (afterOf inSequence before (first .set))
-    (first .preds) rest) where
+    between found rest) where
   has-both : (i : ℕ) → has (bitOr (first .set) (rest .set)) i ≡ member i (activitiesOfAll (cons t f))
   unfolding activities
   has-both i =
@@ -150,7 +156,7 @@ module _ (inSequence : Bool) (t : Term) (f : Forest) (middle next before : ℕ) 
       ∙ sym (member-append i (activities t) (activitiesOfAll f))
 
   ordered : (i j : ℕ)
-      → has (getD (rest .preds) j 0) i
+      → has (getD found j 0) i
       ≡ has (getD preds j 0) i || member j (activitiesOfAll (cons t f)) && has before i
       || among inSequence (cons t f) i j
   unfolding activities precedes
@@ -165,13 +171,14 @@ module _ (inSequence : Bool) (t : Term) (f : Forest) (middle next before : ℕ) 
       ∙ ap (λ (x : Bool). has (getD preds j 0) i || x && has before i || among inSequence (cons t f) i j)
       (sym (member-append j (activities t) (activitiesOfAll f)))
 
-  pub both : OrderJoined (activitiesOfAll (cons t f)) (among inSequence (cons t f)) next before preds
-      (record { next = rest .next; set = bitOr (first .set) (rest .set); preds = rest .preds })
+  pub both : OrderJoined (activitiesOfAll (cons t f)) (among inSequence (cons t f)) next before preds found
+      (record { next = rest .next; set = bitOr (first .set) (rest .set) })
   both =
       record {
         goes = others .goes;
         small = or-lt most (first .set) (rest .set) (child .small) (others .small);
         members = has-both;
+        long = others .long ∙ child .long;
         low = others .low;
         preceded = ordered;
       }

@@ -51,12 +51,12 @@ module _ (bs ns : List ℕ) (at : ℕ) where
       (ap (λ (t : Term). every (isNode most) (nodes t)) (sym (leaf b (h .term) (h .rest) (h .begins))) ∙ h .ranged)
       .0)
 
-  pub leaf-read : (before : ℕ) (preds : List ℕ) (w : Walk) → getD bs at 0 ≡ 97
-      → OrderJoined (activities (act (getD ns at 0))) (precedes (act (getD ns at 0))) (at + 1) before preds w
-      → OrderRead bs ns at before preds w
+  pub leaf-read : (before : ℕ) (preds found : List ℕ) (w : Walk) → getD bs at 0 ≡ 97
+      → OrderJoined (activities (act (getD ns at 0))) (precedes (act (getD ns at 0))) (at + 1) before preds found w
+      → OrderRead bs ns at before preds found w
   unfolding nodes
-  leaf-read before preds w b h t rest e =
-      subst (λ (u : Term). OrderJoined (activities u) (precedes u) (at + length (nodes u)) before preds w)
+  leaf-read before preds found w b h t rest e =
+      subst (λ (u : Term). OrderJoined (activities u) (precedes u) (at + length (nodes u)) before preds found w)
       (sym (leaf b t rest e)) h
 
   group : getD bs at 0 ≢ 97 → (t : Term) (rest : List Node) → nodes t ++ rest ≡ drop at (nodesOf bs ns)
@@ -77,10 +77,10 @@ module _ (bs ns : List ℕ) (at : ℕ) where
         ranged = g .ranged (h .ranged);
       }
 
-  pub group-read : (before : ℕ) (preds : List ℕ) (w : Walk) → getD bs at 0 ≢ 97
-      → OrderReadAll bs ns (at + 1) (getD ns at 0) before (eqb (getD bs at 0) 115) preds w
-      → OrderRead bs ns at before preds w
-  group-read before preds w b h t rest e =
+  pub group-read : (before : ℕ) (preds found : List ℕ) (w : Walk) → getD bs at 0 ≢ 97
+      → OrderReadAll bs ns (at + 1) (getD ns at 0) before (eqb (getD bs at 0) 115) preds found w
+      → OrderRead bs ns at before preds found w
+  group-read before preds found w b h t rest e =
       let g = group b t rest e in
       let is = tested (getD bs at 0) (getD ns at 0) in
       let end : at + 1 + length (nodesOfAll (g .children)) ≡ at + length (nodes t) = omega (arith, g .long) in
@@ -90,7 +90,7 @@ module _ (bs ns : List ℕ) (at : ℕ) where
   -- ---- the reader of children
 
   pub none-left : (inSequence : Bool) (left before : ℕ) (preds : List ℕ) → left ≡ 0 → Low before preds
-      → OrderReadAll bs ns at left before inSequence preds (record { next = at; set = 0; preds = preds })
+      → OrderReadAll bs ns at left before inSequence preds preds (record { next = at; set = 0 })
   unfolding nodes size
   none-left inSequence left before preds z l nil rest s e =
       joins-as refl (λ i j. refl) (sym (add-zero at)) (none inSequence at before preds l)
@@ -140,11 +140,11 @@ module _ (bs ns : List ℕ) (at : ℕ) where
       }
 
   -- After a child the reader is further on, at the other children.
-  pub others-begin : (inSequence : Bool) (left before between : ℕ) (preds : List ℕ) (first : Walk) → left ≢ 0
+  pub others-begin : (inSequence : Bool) (left before between : ℕ) (preds found : List ℕ) (first : Walk) → left ≢ 0
       → ForestAt bs ns at left → Low before preds
-      → OrderRead bs ns at before preds first → between ≡ afterOf inSequence before (first .set)
-      → (at < length bs) × (at < first .next) × ForestAt bs ns (first .next) (left - 1) × Low between (first .preds)
-  others-begin inSequence left before between preds first z h l p b =
+      → OrderRead bs ns at before preds found first → between ≡ afterOf inSequence before (first .set)
+      → (at < length bs) × (at < first .next) × ForestAt bs ns (first .next) (left - 1) × Low between found
+  others-begin inSequence left before between preds found first z h l p b =
       let parts : Split (h .children) (h .rest) left = split (h .children) (h .rest) left z (h .count) (h .begins) in
       let child = p (parts .child) (nodesOfAll (parts .others) ++ h .rest) (parts .begins) in
       let (x, xs, d) = first-node (parts .child) in (
@@ -160,15 +160,14 @@ module _ (bs ns : List ℕ) (at : ℕ) where
         rw b (low-after inSequence first l child),
       )
 
-  pub children-read : (inSequence : Bool) (left before between set : ℕ) (preds : List ℕ) (first others : Walk)
-      → left ≢ 0
-      → OrderRead bs ns at before preds first → between ≡ afterOf inSequence before (first .set)
-      → OrderReadAll bs ns (first .next) (left - 1) between inSequence (first .preds) others
+  pub children-read : (inSequence : Bool) (left before between set : ℕ) (preds middle found : List ℕ)
+      (first others : Walk) → left ≢ 0
+      → OrderRead bs ns at before preds middle first → between ≡ afterOf inSequence before (first .set)
+      → OrderReadAll bs ns (first .next) (left - 1) between inSequence middle found others
       → set ≡ bitOr (first .set) (others .set)
-      → OrderReadAll bs ns at left before inSequence preds
-      (record { next = others .next; set = set; preds = others .preds })
+      → OrderReadAll bs ns at left before inSequence preds found (record { next = others .next; set = set })
   unfolding nodes
-  children-read inSequence left before between set preds first others z p b q u f rest s e =
+  children-read inSequence left before between set preds middle found first others z p b q u f rest s e =
       let parts : Split f rest left = split f rest left z s e in
       let t : Term = parts .child in
       let g : Forest = parts .others in
@@ -179,6 +178,6 @@ module _ (bs ns : List ℕ) (at : ℕ) where
       omega (arith, child .goes, length-append (nodes t) (nodesOfAll g)) in
       rw (parts .whole, u)
       (joins-as refl (λ i j. refl) end
-      (both inSequence t g (at + length (nodes t)) (first .next + length (nodesOfAll g)) before preds first others
-      child
+      (both inSequence t g (at + length (nodes t)) (first .next + length (nodesOfAll g)) before preds middle found
+      first others child
       (rw b at more)))

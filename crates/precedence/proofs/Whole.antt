@@ -26,7 +26,11 @@ none-yet (suc n) (suc j) = none-yet n j
 
 pub low-at-first : Low 0 (replicate most 0)
 low-at-first =
-    record { outer = lit< tt; each = λ j. subst (λ (x : ℕ). x < 2 ^ most) (sym (none-yet most j)) (lit< tt) }
+    record {
+      outer = lit< tt;
+      long = refl;
+      each = λ j. subst (λ (x : ℕ). x < 2 ^ most) (sym (none-yet most j)) (lit< tt);
+    }
 
 pub begins : (letter number : List ℕ) (n : ℕ) → OneTerm letter number n → TermAt (take n letter) (take n number) 0
 begins letter number n h =
@@ -38,10 +42,10 @@ begins letter number n h =
       ranged = ap (every (isNode most)) written ∙ h .ranged;
     }
 
-pub found : (bs ns : List ℕ) (w : Walk) → OrderRead bs ns 0 0 (replicate most 0) w → (t : Term)
+pub found : (bs ns preds : List ℕ) (w : Walk) → OrderRead bs ns 0 0 (replicate most 0) preds w → (t : Term)
     → termOf (nodesOf bs ns) ≡ some t
-    → OrderOf t (w .set) (w .preds)
-found bs ns w h t e =
+    → OrderOf t (w .set) preds
+found bs ns preds w h t e =
     let joins = h t [] (append-nil (nodes t) ∙ nodes-termOf (nodesOf bs ns) t e) in
     record {
       small = joins .small;

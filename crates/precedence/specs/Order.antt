@@ -11,7 +11,7 @@ use Rattle.base.specs.Lists.{every}
 use Rattle.sets.specs.Sets.{most}
 use Rattle.term.specs.Term.{Term, termOf}
 use Rattle.variant.specs.Tables.{OrderOf}
-use Rattle.precedence.specs.declared.Order.{Order}
+use Rattle.variant.specs.declared.Variant.{Variant}
 
 -- The tables hold that many nodes, each with its number in range, and they are one whole term.
 pub record OneTerm (letter number : List ℕ) (nodes : ℕ) : Type 0 where
@@ -21,7 +21,7 @@ pub record OneTerm (letter number : List ℕ) (nodes : ℕ) : Type 0 where
   pub read : termOf (nodesOf (take nodes letter) (take nodes number)) ≡ some term
 
 -- The order of the term that the nodes are.
-abbrev pub Ordered : List ℕ → List ℕ → ℕ → Order → Type 0
+abbrev pub Ordered : List ℕ → List ℕ → ℕ → Variant → Type 0
 Ordered letter number nodes r =
     (t : Term) → termOf (nodesOf (take nodes letter) (take nodes number)) ≡ some t
     → OrderOf t (r .present) (r .preds)

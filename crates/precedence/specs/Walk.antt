@@ -33,33 +33,34 @@ pub record ForestAt (letter number : List ℕ) (at left : ℕ) : Type 0 where
   pub begins : nodesOfAll children ++ rest ≡ drop at (nodesOf letter number)
   pub ranged : every (isNode most) (nodesOfAll children) ≡ true
 
--- The sets are sets of `most` activities.
+-- `most` sets of `most` activities, and one more.
 pub record Low (before : ℕ) (preds : List ℕ) : Type 0 where
   pub outer : before < 2 ^ most
+  pub long : length preds ≡ most
   pub each : (j : ℕ) → getD preds j 0 < 2 ^ most
 
--- What a reader that was handed `before` and `preds` returns for nodes with these activities and this order among
--- them:
--- what stands before the whole comes before each of its activities.
-pub record OrderJoined (acts : List ℕ) (order : ℕ → ℕ → Bool) (next before : ℕ) (preds : List ℕ)
+-- What a reader that was handed `before` returns, and makes of `preds`, for nodes with these activities and this order
+-- among them: what stands before the whole comes before each of its activities.
+pub record OrderJoined (acts : List ℕ) (order : ℕ → ℕ → Bool) (next before : ℕ) (preds found : List ℕ)
     (w : Walk) : Type 0 where
   pub goes : w .next ≡ next
   pub small : w .set < 2 ^ most
   pub members : (i : ℕ) → has (w .set) i ≡ member i acts
-  pub low : (j : ℕ) → getD (w .preds) j 0 < 2 ^ most
+  pub long : length found ≡ length preds
+  pub low : (j : ℕ) → getD found j 0 < 2 ^ most
   pub preceded : (i j : ℕ)
-      → has (getD (w .preds) j 0) i ≡ has (getD preds j 0) i || member j acts && has before i || order i j
+      → has (getD found j 0) i ≡ has (getD preds j 0) i || member j acts && has before i || order i j
 
 -- The order among children: in an s those of earlier children come first.
 abbrev pub among : Bool → Forest → ℕ → ℕ → Bool
 among inSequence f i j = inSequence && earlier f i j || withinOne f i j
 
-abbrev pub OrderRead : List ℕ → List ℕ → ℕ → ℕ → List ℕ → Walk → Type 0
-OrderRead letter number at before preds w =
+abbrev pub OrderRead : List ℕ → List ℕ → ℕ → ℕ → List ℕ → List ℕ → Walk → Type 0
+OrderRead letter number at before preds found w =
     (t : Term) (rest : List Node) → nodes t ++ rest ≡ drop at (nodesOf letter number)
-    → OrderJoined (activities t) (precedes t) (at + length (nodes t)) before preds w
+    → OrderJoined (activities t) (precedes t) (at + length (nodes t)) before preds found w
 
-abbrev pub OrderReadAll : List ℕ → List ℕ → ℕ → ℕ → ℕ → Bool → List ℕ → Walk → Type 0
-OrderReadAll letter number at left before inSequence preds w =
+abbrev pub OrderReadAll : List ℕ → List ℕ → ℕ → ℕ → ℕ → Bool → List ℕ → List ℕ → Walk → Type 0
+OrderReadAll letter number at left before inSequence preds found w =
     (f : Forest) (rest : List Node) → size f ≡ left → nodesOfAll f ++ rest ≡ drop at (nodesOf letter number)
-    → OrderJoined (activitiesOfAll f) (among inSequence f) (at + length (nodesOfAll f)) before preds w
+    → OrderJoined (activitiesOfAll f) (among inSequence f) (at + length (nodesOfAll f)) before preds found w

@@ -2,12 +2,11 @@
 ghost use mathlib.Core.Path.{_≡_};
 ghost use Prim.Native.Nat.{_<_};
 ghost use Rattle.sets.specs.Sets.{most};
-ghost use Rattle.plan.specs.Plan.{planOf};
 ghost use Rattle.term.specs.Term.{Term, act};
 ghost use Rattle.term.specs.Variants.{activities};
 ghost use Rattle.variant.specs.Precedence.{precedes};
 ghost use Rattle.variant.specs.Project.{variantAt};
-ghost use Rattle.variant.specs.Tables.{IsVariant};
+ghost use Rattle.variant.specs.Tables.{OrderOf};
 ghost use Rattle.judge.specs.Campaign.{HoldsVariant};
 ghost use Rattle.precedence.specs.Order.{OneTerm, Ordered};
 ghost use Rattle.precedence.specs.Walk.{afterOf, TermAt, ForestAt, Low, OrderJoined, OrderRead, OrderReadAll};
@@ -16,18 +15,10 @@ use plan::MOST_ACTS;
 use plan::MOST_NODES;
 use variant::Variant;
 
-// The activities of a term, and for each activity number the set of those before it.
-struct Order {
-    present: u32,
-    preds: [u32; MOST_ACTS],
-}
-
-// What a reader found: the node after what it read, its activities, and the sets of those before each activity so
-// far.
+// What a reader found: the node after what it read, and its activities.
 struct Walk {
     next: usize,
     set: u32,
-    preds: [u32; MOST_ACTS],
 }
 
 // What stands before the children after a child.
@@ -42,23 +33,25 @@ fn after(before: u32, child: u32, in_sequence: bool) -> u32
 }
 
 // The walk of one activity, whose node stands before `next`.
-fn activity(i: usize, next: usize, before: u32, preds: [u32; MOST_ACTS]) -> Walk
-    requires { ⌜ (i < most) × Low before preds ⌝ }
-    ensures { λ r. ⌜ OrderJoined (activities (act i)) (precedes (act i)) next before preds r ⌝ }
+fn activity(i: usize, next: usize, before: u32, preds: &mut [u32; MOST_ACTS]) -> Walk
+    requires { ⌜ (i < most) × Low before (now preds) ⌝ }
+    ensures { λ r.
+        ⌜ OrderJoined (activities (act i)) (precedes (act i)) next before (now (preds .entry)) (now (preds .exit))
+        r ⌝ }
 {
-    let mut joined = preds;
-    joined[i] = sets::union(joined[i], before);
+    preds[i] = sets::union(preds[i], before);
     Walk {
         next,
         set: sets::single(i),
-        preds: joined,
     }
 }
 
 // The term that begins at a node.
-fn term(letter: &[u8], number: &[u8], at: usize, before: u32, preds: [u32; MOST_ACTS]) -> Walk
-    requires { ⌜ TermAt (now letter) (now number) at × Low before preds ⌝ }
-    ensures { λ r. ⌜ OrderRead (now (letter .entry)) (now (number .entry)) at before preds r ⌝ }
+fn term(letter: &[u8], number: &[u8], at: usize, before: u32, preds: &mut [u32; MOST_ACTS]) -> Walk
+    requires { ⌜ TermAt (now letter) (now number) at × Low before (now preds) ⌝ }
+    ensures { λ r.
+        ⌜ OrderRead (now (letter .entry)) (now (number .entry)) at before (now (preds .entry)) (now (preds .exit))
+        r ⌝ }
 {
     let b = letter[at];
     let n = number[at] as usize;
@@ -76,49 +69,43 @@ fn children(
     left: usize,
     before: u32,
     in_sequence: bool,
-    preds: [u32; MOST_ACTS],
+    preds: &mut [u32; MOST_ACTS],
 ) -> Walk
-    requires { ⌜ ForestAt (now letter) (now number) at left × Low before preds ⌝ }
-    ensures { λ r. ⌜ OrderReadAll (now (letter .entry)) (now (number .entry)) at left before in_sequence preds r ⌝ }
+    requires { ⌜ ForestAt (now letter) (now number) at left × Low before (now preds) ⌝ }
+    ensures { λ r.
+        ⌜ OrderReadAll (now (letter .entry)) (now (number .entry)) at left before in_sequence (now (preds .entry))
+        (now (preds .exit)) r ⌝ }
 {
     if left == 0 {
-        return Walk {
-            next: at,
-            set: 0,
-            preds,
-        };
+        return Walk { next: at, set: 0 };
     }
     let first = term(letter, number, at, before, preds);
-    let next = first.next;
     let before_rest = after(before, first.set, in_sequence);
-    let so_far = first.preds;
     let rest = children(
         letter,
         number,
-        next,
+        first.next,
         left - 1,
         before_rest,
         in_sequence,
-        so_far,
+        preds,
     );
-    let found = rest.preds;
     Walk {
         next: rest.next,
         set: sets::union(first.set, rest.set),
-        preds: found,
     }
 }
 
 // The order of the term that the first `nodes` nodes of the tables are.
-fn ordered(letter: &[u8; MOST_NODES], number: &[u8; MOST_NODES], nodes: usize) -> Order
+fn ordered(letter: &[u8; MOST_NODES], number: &[u8; MOST_NODES], nodes: usize) -> Variant
     requires { ⌜ OneTerm (now letter) (now number) nodes ⌝ }
     ensures { λ r. ⌜ Ordered (now (letter .entry)) (now (number .entry)) nodes r ⌝ }
 {
     let letters: &[u8] = letter;
     let numbers: &[u8] = number;
-    let w = term(&letters[..nodes], &numbers[..nodes], 0, 0, [0; MOST_ACTS]);
-    let preds = w.preds;
-    Order {
+    let mut preds = [0; MOST_ACTS];
+    let w = term(&letters[..nodes], &numbers[..nodes], 0, 0, &mut preds);
+    Variant {
         present: w.set,
         preds,
     }
@@ -129,24 +116,13 @@ pub fn tabled(campaign: Campaign, v: u32) -> Variant
     requires { ⌜ ((t : Term) × HoldsVariant campaign t v) ⌝ }
     ensures { λ r.
         ⌜ ((t : Term) → HoldsVariant campaign t v
-        → IsVariant (planOf (campaign .tables)) (variantAt t v) r) ⌝ }
+        → OrderOf (variantAt t v) (r .present) (r .preds)) ⌝ }
 {
-    let tables = campaign.tables;
     let spans = campaign.spans;
-    let letter = tables.letter;
-    let number = tables.number;
-    let picked = pick::pick(letter, number, tables.nodes, spans, v);
+    let letter = campaign.tables.letter;
+    let number = campaign.tables.number;
+    let picked = pick::pick(letter, number, campaign.tables.nodes, spans, v);
     let letters = picked.letter;
     let numbers = picked.number;
-    let order = ordered(&letters, &numbers, picked.nodes);
-    let resource = tables.resource;
-    let duration = tables.duration;
-    let preds = order.preds;
-    Variant {
-        acts: tables.acts,
-        resource,
-        duration,
-        present: order.present,
-        preds,
-    }
+    ordered(&letters, &numbers, picked.nodes)
 }

@@ -96,4 +96,6 @@ module _ (s : List ℕ) (n m v : ℕ) (told : readOf s ≡ Read n m v) where
       by-verdict (judge s) refl told λ p t is count.
       rw (add-one, ← count)
       (listed-fit (leb (pairCount p t) cap) _ p t before k refl
-      (sym (ap (λ (j : Verdict). listBy j cap before .answer) is) ∙ sym (ap (λ (x : Outcome ListAnswer). x .answer) lists) ∙ e))
+      (sym (ap (λ (j : Verdict). listBy j cap before .answer) is)
+      ∙ sym (ap (λ (x : Outcome ListAnswer). x .answer) lists)
+      ∙ e))

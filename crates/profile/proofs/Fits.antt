@@ -1,7 +1,7 @@
 -- Where room has to be looked for: an activity fits if it has room on its first tick and on each on which one of the
 -- set starts. From an overfull tick on it does not fit before one of those that run there has ended.
 use Prim.Native.Nat.{ℕ, zero, suc, _+_, _-_, _≤_, _<_}
-use native.Mathlib.Decide.{ℕ-discrete, decLe}
+use native.Mathlib.Decide.{decLe}
 use native.Mathlib.Omega.{arith}
 use mathlib.Core.Bool.{Bool, true, false, not, _&&_}
 use mathlib.Core.List.{List}
@@ -12,12 +12,11 @@ use borrow.Author.Tests.{lt-ltb, le-ltb, eqb-true, eq-eqb, not-true, not-false}
 use Rattle.base.specs.Below.{everyBelow, _implies_}
 use Rattle.base.proofs.Bools.{by-bool, true-not-false, both, and-left, and-right}
 use Rattle.base.proofs.Below.{implies-elim, implies-intro, every-at, every-fails}
-use Rattle.sets.specs.Sets.{most, has, meet}
-use Rattle.sets.proofs.Laws.{has-none, meet-at, meet-not}
+use Rattle.sets.specs.Sets.{most, has}
 use Rattle.instance.specs.Table.{durationAt, clashAt}
 use Rattle.profile.specs.Work.{endAt, startAt, LeastEnd}
-use Rattle.profile.specs.Room.{Among, Running, Few, isLeft, hasRoomAt, FitsAt, Full, Blocked}
-use Rattle.profile.proofs.Room.{Runs, runs-is, runs-of, room-fewer, room-left, room-none, room-few, member-low}
+use Rattle.profile.specs.Room.{Among, Running, isLeft, hasRoomAt, FitsAt, Full, Blocked}
+use Rattle.profile.proofs.Room.{Runs, runs-is, runs-of, room-fewer, room-left, room-none, member-low}
 
 -- ---- a tick on which the units are not left
 
@@ -34,20 +33,6 @@ module _ (t w : List ℕ) (set i u : ℕ) {on : ℕ} (running : Running t w set 
         least = λ k y. omega arith;
       }
 
-  -- Then some run.
-  pub full-some : Among t w set i → isLeft t on i ≡ false → 0 < on
-  full-some among n =
-      by-cases
-      (ℕ-discrete on 0)
-      (λ e.
-      let none : (k : ℕ) → Runs t w set u u k → ⊥ =
-      λ k runs.
-      true-not-false (running .runs k ∙ runs-of t w set u u k runs) (ap (λ (x : ℕ). has x k) e ∙ has-none k) in
-      true-not-false
-      (room-few t w set i among u (λ j k a b. absurd (none j a)) (λ k runs. absurd (none k runs)))
-      (sym (room-left t w set i u running) ∙ n))
-      (λ ne. omega arith)
-
   pub full-least : (r : ℕ) → isLeft t on i ≡ false → LeastEnd w on r → Full t w set i u r
   full-least r n least =
       let (k, y, e) = least .end in
@@ -58,20 +43,6 @@ module _ (t w : List ℕ) (set i u : ℕ) {on : ℕ} (running : Running t w set 
         end = λ ne. (k, runs-of t w set u u k runs, e);
         least = λ j runs′. least .least j (running .runs j ∙ runs′);
       }
-
-  -- One that runs can never run together with i; and at most one runs, and it can.
-  pub room-clash : Among t w set i → meet on (clashAt t i) ≡ true → hasRoomAt t w set i u ≡ false
-  room-clash among e =
-      let (k, b, y, clash) = meet-at most on (clashAt t i) (running .low) e in
-      room-none t w set i among u k (runs-on k y) clash
-
-  pub room-apart : Among t w set i → meet on (clashAt t i) ≡ false → {r : Bool} → Few on r → r ≡ true
-      → hasRoomAt t w set i u ≡ true
-  room-apart among e few yes′ =
-      let on-has : (k : ℕ) → Runs t w set u u k → has on k ≡ true =
-      λ k at. running .runs k ∙ runs-of t w set u u k at in
-      room-few t w set i among u (λ j k a b. few .one yes′ j k (on-has j a) (on-has k b))
-      (λ k at. meet-not on (clashAt t i) k e (on-has k at))
 
 module _ (t w : List ℕ) (set i x : ℕ) where
   -- i does not fit from x on where a tick is full on which it would run.

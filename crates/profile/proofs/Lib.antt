@@ -6,4 +6,4 @@ pub mod Units
 pub mod Room
 pub mod Fits
 pub mod Over
-pub mod Next
+pub mod Beside

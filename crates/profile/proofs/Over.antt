@@ -1,20 +1,19 @@
 -- Those of a set that run while an activity would from tick x on are all that can be in its way there.
 use Prim.Native.Nat.{ℕ, _+_, _-_, _≤_, _<_}
 use native.Mathlib.Omega.{arith}
-use mathlib.Core.Bool.{Bool, true, cond}
+use mathlib.Core.Bool.{Bool, true}
 use mathlib.Core.List.{List}
 use mathlib.Core.Logic.{_≢_}
 use mathlib.Core.Path.{_≡_, sym, ap, _∙_, subst}
 use lib.Bits.{bitAnd, and-le-l}
-use Rattle.base.specs.Below.{maxBelow}
-use Rattle.base.proofs.Bools.{by-bool, true-not-false, both, and-left, and-right, cond-true, cond-false}
-use Rattle.base.proofs.Below.{max-term, max-reached}
-use Rattle.sets.specs.Sets.{most, has}
-use Rattle.sets.proofs.Laws.{has-and, has-none, has-some}
+use Rattle.base.proofs.Bools.{by-bool, true-not-false, both, and-left, and-right}
+use Rattle.sets.specs.Sets.{has}
+use Rattle.sets.proofs.Laws.{has-and, has-none}
 use Rattle.instance.specs.Table.{durationAt, clashAt}
 use Rattle.profile.specs.Work.{endAt, startAt, latestOf}
 use Rattle.profile.specs.Room.{Among, Running, Few, Blocked}
 use Rattle.profile.proofs.Room.{Runs, runs-is, runs-of, room-fewer, room-few}
+use Rattle.profile.proofs.Ends.{latest-reached}
 use Rattle.profile.proofs.Fits.{blocked-none, blocked-clash}
 
 module _ (t w : List ℕ) (set i x : ℕ) (among : Among t w set i) {over : ℕ}
@@ -34,18 +33,6 @@ module _ (t w : List ℕ) (set i x : ℕ) (among : Among t w set i) {over : ℕ}
   pub over-soon : (k : ℕ) → has over k ≡ true → startAt t w k < x + durationAt t i
   over-soon k y = omega (arith, long, over-runs k y .begins)
 
-  pub over-among : Among t w over i
-  over-among =
-      record {
-        laid = among .laid;
-        timed = among .timed;
-        low = running .low;
-        acts = λ k y. among .acts k (over-runs k y .there);
-        started = λ k y. among .started k (over-runs k y .there);
-        own = among .own;
-        other = by-bool (has over i) (λ y. true-not-false (over-runs i y .there) (among .other)) (λ n. n);
-      }
-
   -- Some of them can never run together with i, and k ends last of these; and none of them.
   clash-ends : (k : ℕ) → has (bitAnd over (clashAt t i)) k ≡ true → x < endAt w k
   clash-ends k y =
@@ -54,20 +41,14 @@ module _ (t w : List ℕ) (set i x : ℕ) (among : Among t w set i) {over : ℕ}
   pub over-clash : (r clash : ℕ) → clash ≡ bitAnd over (clashAt t i) → clash ≢ 0 → r ≡ latestOf w clash
       → Blocked t w set i x r
   over-clash r clash is some last =
-      let chosen : ℕ → ℕ = λ j. cond (has clash j) (endAt w j) 0 in
-      let (j, b, y) = has-some most clash (omega (arith, is, and-le-l over (clashAt t i), running .low)) some in
-      let ends = clash-ends j (ap (λ (z : ℕ). has z j) (sym is) ∙ y) in
-      let high : 0 < maxBelow most chosen =
-      omega (arith, ends, max-term most chosen j b, cond-true (endAt w j) 0 y) in
-      let (k, l, e) = max-reached most chosen high in
-      by-bool
-      (has clash k)
-      (λ there.
+      let (k, there, e) =
+      latest-reached w clash r (omega (arith, is, and-le-l over (clashAt t i), running .low)) some
+      (λ k y. omega (arith, clash-ends k (ap (λ (z : ℕ). has z k) (sym is) ∙ y)))
+      last in
       let two = sym (has-and over (clashAt t i) k) ∙ ap (λ (z : ℕ). has z k) (sym is) ∙ there in
-      subst (Blocked t w set i x) (sym (last ∙ e ∙ cond-true (endAt w k) 0 there))
+      subst (Blocked t w set i x) (sym e)
       (blocked-clash t w set i x among k (over-runs k (and-left (has over k) (has (clashAt t i) k) two))
-      (and-right (has over k) (has (clashAt t i) k) two)))
-      (λ gone. absurd (omega (arith, high, e, cond-false (endAt w k) 0 gone)))
+      (and-right (has over k) (has (clashAt t i) k) two))
 
   pub over-few : bitAnd over (clashAt t i) ≡ 0 → {r : Bool} → Few over r → r ≡ true → Blocked t w set i x 0
   over-few none few yes′ =

@@ -20,6 +20,14 @@ pub record Among (t w : List ℕ) (set i : ℕ) : Type 0 where
   pub own : i < actsOf t
   pub other : has set i ≡ false
 
+-- Activity i is to run beside those of a set, which are others.
+pub record Others (t : List ℕ) (set i : ℕ) : Type 0 where
+  pub laid : Laid t
+  pub low : set < 2 ^ most
+  pub acts : (k : ℕ) → has set k ≡ true → k < actsOf t
+  pub own : i < actsOf t
+  pub other : has set i ≡ false
+
 -- Those of the set that run on a tick from u to v, and those that run on tick u.
 abbrev pub runsIn : List ℕ → List ℕ → ℕ → ℕ → ℕ → ℕ → Bool
 runsIn t w set u v k = has set k && leb (startAt t w k) v && ltb u (endAt w k)
@@ -30,6 +38,11 @@ runsAt t w set u k = runsIn t w set u u k
 pub record Running (t w : List ℕ) (set u v r : ℕ) : Type 0 where
   pub low : r < 2 ^ most
   pub runs : (k : ℕ) → has r k ≡ runsIn t w set u v k
+
+-- Those of the set that end behind a tick.
+pub record Behind (w : List ℕ) (set tick r : ℕ) : Type 0 where
+  pub low : r < 2 ^ most
+  pub members : (k : ℕ) → has r k ≡ (has set k && ltb tick (endAt w k))
 
 -- Where the answer is yes, the set has at most one member.
 pub record Few (set : ℕ) (r : Bool) : Type 0 where
@@ -78,3 +91,18 @@ pub record NextFit (t w : List ℕ) (set i x r : ℕ) : Type 0 where
   pub from : x ≤ r
   pub end : (r ≡ x → ⊥) → (k : ℕ) × (has set k ≡ true) × (r ≡ endAt w k)
   pub none : (z : ℕ) → x ≤ z → z < r → FitsAt t w set i z → ⊥
+
+-- From tick `start` on, of a set that has started by then those that are live matter alone; before it i has room from x
+-- on.
+pub record Late (t w : List ℕ) (set live i x start : ℕ) : Type 0 where
+  pub among : Among t w set i
+  pub within : (k : ℕ) → has live k ≡ true → has set k ≡ true
+  pub kept : (k : ℕ) → has set k ≡ true → start < endAt w k → has live k ≡ true
+  pub begun : (k : ℕ) → has set k ≡ true → startAt t w k ≤ start
+  pub room : (u : ℕ) → x ≤ u → u < start → hasRoomAt t w set i u ≡ true
+  pub over : start < x + durationAt t i
+
+-- The end of one of a set; before it i has no room once all of the set have started.
+pub record Opens (t w : List ℕ) (set i r : ℕ) : Type 0 where
+  pub end : (k : ℕ) × (has set k ≡ true) × (r ≡ endAt w k)
+  pub none : (u : ℕ) → ((k : ℕ) → has set k ≡ true → startAt t w k ≤ u) → u < r → hasRoomAt t w set i u ≡ false

@@ -1,6 +1,6 @@
 -- The working array of the search: the end of each frozen activity; the tick from which each placed one that is not
 -- frozen can start; and for each component in which no two can run together the last frozen end, or less.
-use Prim.Native.Nat.{ℕ, _+_, _-_, _*_, _≤_, max}
+use Prim.Native.Nat.{ℕ, _+_, _-_, _*_, _≤_, _<_, max}
 use mathlib.Core.Bool.{true, cond}
 use mathlib.Core.List.{List}
 use mathlib.Core.Path.{_≡_}
@@ -49,3 +49,7 @@ pub record LeastEnd (w : List ℕ) (set r : ℕ) : Type 0 where
 pub record Timed (w : List ℕ) : Type 0 where
   pub times : (k : ℕ) → getD w k 0 ≤ latestPossible
   pub size : length w ≡ workCells
+
+-- The second part apart.
+abbrev pub ReadyColumn : List ℕ → List ℕ → Type 0
+ReadyColumn w r = (i : ℕ) → i < width → getD r i 0 ≡ readyAt w i

@@ -8,16 +8,19 @@ use plan::MOST_RESOURCES;
 use sets::WIDTH;
 use sets::after_lowest;
 use sets::lowest;
-ghost use mathlib.Core.Bool.{true};
+ghost use mathlib.Core.Bool.{true, false};
 ghost use mathlib.Core.Path.{_≡_};
 ghost use Prim.Native.Nat.{ℕ, _^_, _≤_, _<_, _+_, _*_, max, min};
-ghost use lib.ListN.{set};
+ghost use lib.ListN.{length, getD, set};
 ghost use Rattle.plan.specs.Limits.{mostResources, latestPossible};
 ghost use Rattle.sets.specs.Sets.{most, has, width};
 ghost use Rattle.instance.specs.Instance.{Laid};
+ghost use Rattle.instance.specs.Steps.{Filled};
 ghost use Rattle.instance.specs.Table.{durationAt, unitsAt};
 ghost use Rattle.profile.specs.Work.{endAt, readyAt, freeAt, startAt, readyFrom, freeFrom, latestOf, LeastEnd};
-ghost use Rattle.profile.specs.Room.{Among, Running, Few, unitsOf, isLeft, hasRoomAt, Full, Blocked, NextFit};
+ghost use Rattle.profile.specs.Room.{Among, Others, Running, Behind, Few, unitsOf, isLeft, Full, Blocked};
+ghost use Rattle.profile.specs.Room.{NextFit, Late, Opens};
+ghost use Rattle.profile.specs.Work.{workCells, ReadyColumn};
 
 // More than any end.
 pub const NEVER: u32 = 4294967295;
@@ -146,6 +149,23 @@ fn running(table: &Table, work: &Work, set: u32, first: u32, last: u32) -> u32
     on
 }
 
+// Those of the set that end behind a tick.
+pub fn behind(work: &Work, set: u32, tick: u32) -> u32
+    requires { ⌜ set < 2 ^ most ⌝ }
+    ensures { λ r. ⌜ Behind (now (work .entry)) set tick r ⌝ }
+{
+    let mut found = 0;
+    let mut rest = set;
+    while rest != 0 {
+        let k = lowest(rest);
+        rest = after_lowest(rest);
+        if tick < end_of(work, k) {
+            found = sets::union(found, sets::single(k));
+        }
+    }
+    found
+}
+
 // The units of resource r that an activity holds, and those that a set holds.
 fn units_at(table: &Table, i: usize, r: usize) -> u32
     requires { ⌜ (i < most) × (r < mostResources) ⌝ }
@@ -185,19 +205,18 @@ fn is_left(table: &Table, set: u32, i: usize) -> bool
     true
 }
 
-// Are the units that i needs left on a tick?
-pub fn has_room(table: &Table, work: &Work, set: u32, i: usize, tick: u32) -> bool
-    requires { ⌜ Among (now table) (now work) set i × (tick ≤ latestPossible) ⌝ }
-    ensures { λ r. ⌜ r ≡ hasRoomAt (now (table .entry)) (now (work .entry)) set i tick ⌝ }
+// The same, where i is not of the set: a clash decides it, or one alone without a clash.
+pub fn has_left(table: &Table, set: u32, i: usize) -> bool
+    requires { ⌜ Others (now table) set i ⌝ }
+    ensures { λ r. ⌜ r ≡ isLeft (now (table .entry)) set i ⌝ }
 {
-    let on = running(table, work, set, tick, tick);
-    if sets::meets(on, table[CLASH + i]) {
+    if sets::meets(set, table[CLASH + i]) {
         return false;
     }
-    if is_few(on) {
+    if is_few(set) {
         return true;
     }
-    is_left(table, on, i)
+    is_left(table, set, i)
 }
 
 // 0 where the units that i needs are left on a tick, else the least end of those that run on it.
@@ -254,16 +273,59 @@ pub fn blocked(table: &Table, work: &Work, set: u32, i: usize, x: u32) -> u32
     crowded(table, work, over, i, x)
 }
 
-// The first tick from x on at which i fits.
-pub fn next_fit(table: &Table, work: &Work, set: u32, i: usize, x: u32) -> u32
-    requires { ⌜ Among (now table) (now work) set i × (x ≤ latestPossible) ⌝ }
-    ensures { λ r. ⌜ NextFit (now (table .entry)) (now (work .entry)) set i x r ⌝ }
+// i has no room beside a set: the end up to which it has none, the last of those that clash with it, or else the first.
+fn opening(table: &Table, work: &Work, set: u32, i: usize) -> u32
+    requires { ⌜ Among (now table) (now work) set i × (isLeft (now table) set i ≡ false) ⌝ }
+    ensures { λ r. ⌜ Opens (now (table .entry)) (now (work .entry)) set i r ⌝ }
 {
-    let mut from = x;
-    let mut until = blocked(table, work, set, i, x);
-    while until != 0 {
-        from = until;
-        until = blocked(table, work, set, i, from);
+    let clash = sets::common(set, table[CLASH + i]);
+    if clash != 0 {
+        return latest(work, clash);
     }
-    from
+    least(work, set)
+}
+
+// The first tick from x on at which i fits among a set that has started by tick `start`, and of which `live` may end
+// behind it.
+pub fn fit_beside(table: &Table, work: &Work, live: u32, i: usize, x: u32, start: u32) -> u32
+    requires { ⌜ (live < 2 ^ most) × (x ≤ latestPossible)
+        × ((set : ℕ) × Late (now table) (now work) set live i x start) ⌝ }
+    ensures { λ r. ⌜ ((set : ℕ) → Late (now (table .entry)) (now (work .entry)) set live i x start
+        → NextFit (now (table .entry)) (now (work .entry)) set i x r) ⌝ }
+{
+    let mut tick = x;
+    let mut beside = behind(work, live, later(x, start));
+    while !has_left(table, beside, i) {
+        tick = opening(table, work, beside, i);
+        beside = behind(work, beside, tick);
+    }
+    tick
+}
+
+// When each placed one can start, apart, and put back.
+pub type Column = [u32; WIDTH];
+
+pub fn ready_column(work: &Work) -> Column
+    ensures { λ r. ⌜ ReadyColumn (now (work .entry)) r ⌝ }
+{
+    let mut column = [0; WIDTH];
+    let mut i = 0;
+    while i < WIDTH {
+        column[i] = work[READY + i];
+        i += 1;
+    }
+    column
+}
+
+pub fn put_back(work: &mut Work, column: &Column)
+    requires { ⌜ length (now work) ≡ workCells ⌝ }
+    ensures { λ _.
+        ⌜ Filled (now (work .entry)) readyFrom width (λ i x. x ≡ getD (now (column .entry)) i 0)
+        (now (work .exit)) ⌝ }
+{
+    let mut i = 0;
+    while i < WIDTH {
+        work[READY + i] = column[i];
+        i += 1;
+    }
 }

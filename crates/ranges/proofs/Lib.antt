@@ -1,3 +1,4 @@
 -- The laws of these tests.
 pub mod Between
 pub mod Nodes
+pub mod Units

@@ -37,7 +37,8 @@ from-one n =
     ap (λ (b : Bool). between fewestChildren mostChildren n || b) e ∙ or-false (between fewestChildren mostChildren n)
     ∙ same-bool (between fewestChildren mostChildren n) (between 1 mostChildren n)
     (λ t.
-    let (low, high) = between-facts fewestChildren mostChildren n t in facts-between 1 mostChildren n (omega arith) high)
+    let (low, high) = between-facts fewestChildren mostChildren n t in
+    facts-between 1 mostChildren n (omega arith) high)
     (λ t.
     let (low, high) = between-facts 1 mostChildren n t in
     facts-between fewestChildren mostChildren n (other n low (eqb-false n 1 e)) high))

@@ -5,7 +5,7 @@ use timetable::Timetable;
 fn put_length() -> bool {
     put(b"case=empty_file call=read\n")
         && printer::put_read(b"")
-        && put(b"case=file_of_984_bytes call=read\n")
+        && put(b"case=file_of_2176_bytes call=read\n")
         && printer::put_read(&[b'a'; console::FILE])
 }
 
@@ -24,6 +24,11 @@ fn put_range() -> bool {
 
 fn put_group() -> bool {
     put(b"case=group_of_one call=read\n") && printer::put_read(&samples::group_of_one())
+}
+
+fn put_units() -> bool {
+    put(b"case=units_over_capacity call=read\n")
+        && printer::put_read(&samples::units_over_capacity())
 }
 
 fn put_term() -> bool {
@@ -80,6 +85,7 @@ fn main() {
         && put_form()
         && put_range()
         && put_group()
+        && put_units()
         && put_term()
         && put_variant()
         && put_cap()

@@ -1,4 +1,5 @@
-// Plan files: the worked campaigns, and one for each kind of fault, as the programs that run them take them.
+// Plan files of both editions: the worked campaigns, and one for each kind of fault, as the programs that run them take
+// them.
 
 // The dot test, whole.
 pub fn dot_test() -> [u8; 149] {
@@ -176,4 +177,173 @@ pub fn ten_in_parallel() -> [u8; 210] {
         act=0,1\nact=0,1\nact=0,1\nact=0,1\nact=0,1\nact=0,1\nact=0,1\nact=0,1\nact=0,1\nact=0,1\n\
         nodes=11\nnode=p,10\nnode=a,0\nnode=a,1\nnode=a,2\nnode=a,3\nnode=a,4\nnode=a,5\nnode=a,6\n\
         node=a,7\nnode=a,8\nnode=a,9\n"
+}
+
+// Two arms and a camera, with activities that hold an arm, an arm and the camera, both arms or the camera: nine
+// sessions, two of them shortest, of makespan 9.
+pub fn two_arm_bench() -> [u8; 153] {
+    *b"plan=2\nres=2\ncap=2\ncap=1\nacts=5\n\
+        act=4,1,0\nact=3,1,1\nact=2,2,0\nact=5,1,0\nact=2,0,1\n\
+        nodes=7\nnode=p,4\nnode=s,2\nnode=a,0\nnode=a,2\nnode=a,1\nnode=a,3\nnode=a,4\n"
+}
+
+// p over four activities, each on one of two arms: eleven sessions, four of them shortest, of makespan 4.
+pub fn two_arms() -> [u8; 111] {
+    *b"plan=2\nres=1\ncap=2\nacts=4\n\
+        act=3,1\nact=2,1\nact=2,1\nact=1,1\n\
+        nodes=5\nnode=p,4\nnode=a,0\nnode=a,1\nnode=a,2\nnode=a,3\n"
+}
+
+// An activity that holds an arm and the camera, beside one on the camera, one on an arm and one on both arms: four
+// sessions.
+pub fn arm_and_camera() -> [u8; 125] {
+    *b"plan=2\nres=2\ncap=2\ncap=1\nacts=4\n\
+        act=2,1,1\nact=3,0,1\nact=1,1,0\nact=2,2,0\n\
+        nodes=5\nnode=p,4\nnode=a,0\nnode=a,1\nnode=a,2\nnode=a,3\n"
+}
+
+// An activity that needs both arms, and two that need one each: three sessions.
+pub fn both_arms() -> [u8; 94] {
+    *b"plan=2\nres=1\ncap=2\nacts=3\n\
+        act=3,2\nact=2,1\nact=4,1\n\
+        nodes=4\nnode=p,3\nnode=a,0\nnode=a,1\nnode=a,2\n"
+}
+
+// Three units, held by three activities at once or by one of two units and another: seven sessions.
+pub fn shared_three_ways() -> [u8; 111] {
+    *b"plan=2\nres=1\ncap=3\nacts=4\n\
+        act=2,1\nact=3,1\nact=1,1\nact=2,2\n\
+        nodes=5\nnode=p,4\nnode=a,0\nnode=a,1\nnode=a,2\nnode=a,3\n"
+}
+
+// An activity that holds no resource, beside two that share one: two sessions.
+pub fn without_resource() -> [u8; 94] {
+    *b"plan=2\nres=1\ncap=1\nacts=3\n\
+        act=2,1\nact=3,1\nact=4,0\n\
+        nodes=4\nnode=p,3\nnode=a,0\nnode=a,1\nnode=a,2\n"
+}
+
+// The dot test in edition 2.
+pub fn dot_test_units() -> [u8; 187] {
+    *b"plan=2\nres=3\ncap=1\ncap=1\ncap=1\nacts=5\n\
+        act=4,1,0,0\nact=2,0,1,0\nact=3,0,1,0\nact=5,0,0,1\nact=6,0,1,0\n\
+        nodes=9\nnode=s,2\nnode=x,2\nnode=a,0\nnode=p,2\nnode=a,1\nnode=a,2\nnode=p,2\nnode=a,3\nnode=a,4\n"
+}
+
+// As many units as the resource has.
+pub fn units_at_capacity() -> [u8; 53] {
+    *b"plan=2\nres=1\ncap=15\nacts=1\n\
+        act=1,15\n\
+        nodes=1\nnode=a,0\n"
+}
+
+// One unit more than the resource has, on line 5.
+pub fn units_over_capacity() -> [u8; 53] {
+    *b"plan=2\nres=1\ncap=14\nacts=1\n\
+        act=1,15\n\
+        nodes=1\nnode=a,0\n"
+}
+
+// A unit count out of range, on line 5; it is also more than the resource has.
+pub fn units_16() -> [u8; 53] {
+    *b"plan=2\nres=1\ncap=15\nacts=1\n\
+        act=1,16\n\
+        nodes=1\nnode=a,0\n"
+}
+
+// One unit count above its resource's units and the next out of range, on line 6.
+pub fn units_over_and_16() -> [u8; 61] {
+    *b"plan=2\nres=2\ncap=1\ncap=15\nacts=1\n\
+        act=1,2,16\n\
+        nodes=1\nnode=a,0\n"
+}
+
+// A capacity out of range, on line 3.
+pub fn capacity_16() -> [u8; 52] {
+    *b"plan=2\nres=1\ncap=16\nacts=1\n\
+        act=1,1\n\
+        nodes=1\nnode=a,0\n"
+}
+
+// The second of two capacities is absent, on line 4.
+pub fn capacity_absent() -> [u8; 53] {
+    *b"plan=2\nres=2\ncap=1\nacts=1\n\
+        act=1,1,1\n\
+        nodes=1\nnode=a,0\n"
+}
+
+// One unit count for two resources, on line 6.
+pub fn count_absent() -> [u8; 57] {
+    *b"plan=2\nres=2\ncap=1\ncap=1\nacts=1\n\
+        act=1,1\n\
+        nodes=1\nnode=a,0\n"
+}
+
+// Two unit counts for one resource, on line 5.
+pub fn count_too_many() -> [u8; 53] {
+    *b"plan=2\nres=1\ncap=1\nacts=1\n\
+        act=1,1,1\n\
+        nodes=1\nnode=a,0\n"
+}
+
+// Another edition, on line 1.
+pub fn edition_3() -> [u8; 51] {
+    *b"plan=3\nres=1\ncap=1\nacts=1\n\
+        act=1,1\n\
+        nodes=1\nnode=a,0\n"
+}
+
+// The longest file of edition 1.
+pub fn longest_edition_1() -> [u8; 983] {
+    *b"plan=1\nres=16\nacts=24\n\
+        act=15,20000\nact=15,20000\nact=15,20000\nact=15,20000\nact=15,20000\nact=15,20000\n\
+        act=15,20000\nact=15,20000\nact=15,20000\nact=15,20000\nact=15,20000\nact=15,20000\n\
+        act=15,20000\nact=15,20000\nact=15,20000\nact=15,20000\nact=15,20000\nact=15,20000\n\
+        act=15,20000\nact=15,20000\nact=15,20000\nact=15,20000\nact=15,20000\nact=15,20000\n\
+        nodes=64\nnode=x,63\nnode=a,23\nnode=a,23\nnode=a,23\nnode=a,23\nnode=a,23\nnode=a,23\nnode=a,23\n\
+        node=a,23\nnode=a,23\nnode=a,23\nnode=a,23\nnode=a,23\nnode=a,23\nnode=a,23\nnode=a,23\n\
+        node=a,23\nnode=a,23\nnode=a,23\nnode=a,23\nnode=a,23\nnode=a,23\nnode=a,23\nnode=a,23\n\
+        node=a,23\nnode=a,23\nnode=a,23\nnode=a,23\nnode=a,23\nnode=a,23\nnode=a,23\nnode=a,23\n\
+        node=a,23\nnode=a,23\nnode=a,23\nnode=a,23\nnode=a,23\nnode=a,23\nnode=a,23\nnode=a,23\n\
+        node=a,23\nnode=a,23\nnode=a,23\nnode=a,23\nnode=a,23\nnode=a,23\nnode=a,23\nnode=a,23\n\
+        node=a,23\nnode=a,23\nnode=a,23\nnode=a,23\nnode=a,23\nnode=a,23\nnode=a,23\nnode=a,23\n\
+        node=a,23\nnode=a,23\nnode=a,23\nnode=a,23\nnode=a,23\nnode=a,23\nnode=a,23\nnode=a,23\n"
+}
+
+// The longest file of any edition.
+pub fn longest() -> [u8; 2175] {
+    *b"plan=2\nres=16\ncap=15\ncap=15\ncap=15\ncap=15\ncap=15\ncap=15\ncap=15\ncap=15\ncap=15\ncap=15\ncap=15\n\
+        cap=15\ncap=15\ncap=15\ncap=15\ncap=15\nacts=24\n\
+        act=20000,15,15,15,15,15,15,15,15,15,15,15,15,15,15,15,15\n\
+        act=20000,15,15,15,15,15,15,15,15,15,15,15,15,15,15,15,15\n\
+        act=20000,15,15,15,15,15,15,15,15,15,15,15,15,15,15,15,15\n\
+        act=20000,15,15,15,15,15,15,15,15,15,15,15,15,15,15,15,15\n\
+        act=20000,15,15,15,15,15,15,15,15,15,15,15,15,15,15,15,15\n\
+        act=20000,15,15,15,15,15,15,15,15,15,15,15,15,15,15,15,15\n\
+        act=20000,15,15,15,15,15,15,15,15,15,15,15,15,15,15,15,15\n\
+        act=20000,15,15,15,15,15,15,15,15,15,15,15,15,15,15,15,15\n\
+        act=20000,15,15,15,15,15,15,15,15,15,15,15,15,15,15,15,15\n\
+        act=20000,15,15,15,15,15,15,15,15,15,15,15,15,15,15,15,15\n\
+        act=20000,15,15,15,15,15,15,15,15,15,15,15,15,15,15,15,15\n\
+        act=20000,15,15,15,15,15,15,15,15,15,15,15,15,15,15,15,15\n\
+        act=20000,15,15,15,15,15,15,15,15,15,15,15,15,15,15,15,15\n\
+        act=20000,15,15,15,15,15,15,15,15,15,15,15,15,15,15,15,15\n\
+        act=20000,15,15,15,15,15,15,15,15,15,15,15,15,15,15,15,15\n\
+        act=20000,15,15,15,15,15,15,15,15,15,15,15,15,15,15,15,15\n\
+        act=20000,15,15,15,15,15,15,15,15,15,15,15,15,15,15,15,15\n\
+        act=20000,15,15,15,15,15,15,15,15,15,15,15,15,15,15,15,15\n\
+        act=20000,15,15,15,15,15,15,15,15,15,15,15,15,15,15,15,15\n\
+        act=20000,15,15,15,15,15,15,15,15,15,15,15,15,15,15,15,15\n\
+        act=20000,15,15,15,15,15,15,15,15,15,15,15,15,15,15,15,15\n\
+        act=20000,15,15,15,15,15,15,15,15,15,15,15,15,15,15,15,15\n\
+        act=20000,15,15,15,15,15,15,15,15,15,15,15,15,15,15,15,15\n\
+        act=20000,15,15,15,15,15,15,15,15,15,15,15,15,15,15,15,15\n\
+        nodes=64\nnode=x,63\nnode=a,23\nnode=a,23\nnode=a,23\nnode=a,23\nnode=a,23\nnode=a,23\nnode=a,23\nnode=a,23\n\
+        node=a,23\nnode=a,23\nnode=a,23\nnode=a,23\nnode=a,23\nnode=a,23\nnode=a,23\nnode=a,23\nnode=a,23\n\
+        node=a,23\nnode=a,23\nnode=a,23\nnode=a,23\nnode=a,23\nnode=a,23\nnode=a,23\nnode=a,23\nnode=a,23\n\
+        node=a,23\nnode=a,23\nnode=a,23\nnode=a,23\nnode=a,23\nnode=a,23\nnode=a,23\nnode=a,23\nnode=a,23\n\
+        node=a,23\nnode=a,23\nnode=a,23\nnode=a,23\nnode=a,23\nnode=a,23\nnode=a,23\nnode=a,23\nnode=a,23\n\
+        node=a,23\nnode=a,23\nnode=a,23\nnode=a,23\nnode=a,23\nnode=a,23\nnode=a,23\nnode=a,23\nnode=a,23\n\
+        node=a,23\nnode=a,23\nnode=a,23\nnode=a,23\nnode=a,23\nnode=a,23\nnode=a,23\nnode=a,23\nnode=a,23\n\
+        node=a,23\n"
 }

@@ -1,29 +1,56 @@
--- The scan on two small projects, computed and held to what the paper's steps give by hand.
+-- The scan of small projects, computed and held to their active schedules, which were found by trying all starts.
 use Prim.Native.Nat.{ℕ}
+use mathlib.Core.Bool.{true, _&&_}
 use mathlib.Core.List.{List, [], _∷_}
 use mathlib.Core.Path.{_≡_, refl}
-use lib.ListN.{getD}
-use Rattle.base.specs.Below.{everyBelow}
+use lib.Dec.{ltb, eqb}
+use lib.ListN.{length, getD}
+use Rattle.base.specs.Below.{everyBelow, sumBelow, maxBelow}
 use Rattle.base.specs.Lists.{gather}
-use Rattle.sets.specs.Sets.{has, size}
-use Rattle.scan.specs.Model.{Problem, leastBelow}
-use Rattle.scan.specs.Scan.{combinationsFrom, move, freeze, select, resolve, delete, attach, empty, completed}
-use Rattle.scan.specs.Scan.{schedules}
+use Rattle.schedule.specs.Project.{Project}
+use Rattle.scan.specs.Components.{merged, componentBelow, componentOf}
+use Rattle.scan.specs.Scan.{firstFrom, readyTick, held, hasRoom, fits, nextFit, combinationsFrom, move, freeze}
+use Rattle.scan.specs.Scan.{shift, resolve, delete, attach, begun, completed, schedules}
 
-abbrev problem : List ℕ → List ℕ → List ℕ → Problem
-problem durations resources preds =
-    record { duration = λ i. getD durations i 0; resource = λ i. getD resources i 0; preds = λ i. getD preds i 0 }
+-- Durations, units by activity and resource, capacities; activity `first` precedes `then` by a gap.
+abbrev project : List ℕ → List (List ℕ) → List ℕ → ℕ → ℕ → ℕ → Project
+project durations units capacities first then gap =
+    record {
+      size = length durations;
+      present = λ i. ltb i (length durations);
+      duration = λ i. getD durations i 0;
+      precedes = λ i j. eqb i first && eqb j then;
+      gap = λ i j. gap;
+      resources = length capacities;
+      capacity = λ r. getD capacities r 0;
+      units = λ i r. getD (getD units i []) r 0;
+      free = λ i. true;
+      floor = 0;
+      begun = λ i. 0;
+    }
 
--- Two on each of two resources, contested at one tick.
-pub two-contested : schedules (problem (1 ∷ 1 ∷ 1 ∷ 1 ∷ []) (0 ∷ 0 ∷ 1 ∷ 1 ∷ []) []) 4 15
-    ≡ (0 ∷ 1 ∷ 0 ∷ 1 ∷ []) ∷ (0 ∷ 1 ∷ 1 ∷ 0 ∷ []) ∷ (1 ∷ 0 ∷ 0 ∷ 1 ∷ []) ∷ (1 ∷ 0 ∷ 1 ∷ 0 ∷ []) ∷ []
-unfolding combinationsFrom move freeze select resolve delete attach empty completed schedules everyBelow has size
-    leastBelow gather
-two-contested = refl
+abbrev found : Project → List (List ℕ)
+found p = schedules p (componentOf p) 9
 
--- Activity 1 follows 0 on resource 1, and 2 and 3 contest resource 0; 4 follows 3.
-pub one-contested : schedules (problem (1 ∷ 2 ∷ 1 ∷ 3 ∷ 1 ∷ []) (1 ∷ 1 ∷ 0 ∷ 0 ∷ 2 ∷ []) (0 ∷ 1 ∷ 0 ∷ 0 ∷ 8 ∷ [])) 5 31
-    ≡ (0 ∷ 1 ∷ 0 ∷ 1 ∷ 4 ∷ []) ∷ (0 ∷ 1 ∷ 3 ∷ 0 ∷ 3 ∷ []) ∷ []
-unfolding combinationsFrom move freeze select resolve delete attach empty completed schedules everyBelow has size
-    leastBelow gather
-one-contested = refl
+-- Three activities on a resource of two units.
+pub two-units : found (project (2 ∷ 2 ∷ 2 ∷ []) ((1 ∷ []) ∷ (1 ∷ []) ∷ (1 ∷ []) ∷ []) (2 ∷ []) 9 9 0)
+    ≡ (0 ∷ 0 ∷ 2 ∷ []) ∷ (0 ∷ 2 ∷ 0 ∷ []) ∷ (2 ∷ 0 ∷ 0 ∷ []) ∷ []
+unfolding merged componentBelow firstFrom readyTick held hasRoom fits nextFit combinationsFrom move freeze shift resolve
+    delete attach begun completed schedules everyBelow sumBelow maxBelow gather
+two-units = refl
+
+-- A resource of one unit; activity 1 starts two ticks or more after the end of 0.
+pub with-a-gap : found (project (1 ∷ 1 ∷ 2 ∷ []) ((1 ∷ []) ∷ (1 ∷ []) ∷ (1 ∷ []) ∷ []) (1 ∷ []) 0 1 2)
+    ≡ (0 ∷ 3 ∷ 1 ∷ []) ∷ (2 ∷ 5 ∷ 0 ∷ []) ∷ []
+unfolding merged componentBelow firstFrom readyTick held hasRoom fits nextFit combinationsFrom move freeze shift resolve
+    delete attach begun completed schedules everyBelow sumBelow maxBelow gather
+with-a-gap = refl
+
+-- A resource of two units and one of one: activity 1 holds one of each, 3 both of the first, after 2.
+pub several-resources :
+    found
+    (project (2 ∷ 1 ∷ 1 ∷ 2 ∷ []) ((1 ∷ 0 ∷ []) ∷ (1 ∷ 1 ∷ []) ∷ (0 ∷ 1 ∷ []) ∷ (2 ∷ 0 ∷ []) ∷ []) (2 ∷ 1 ∷ []) 2 3 0)
+    ≡ (0 ∷ 0 ∷ 1 ∷ 2 ∷ []) ∷ (0 ∷ 1 ∷ 0 ∷ 2 ∷ []) ∷ (3 ∷ 3 ∷ 0 ∷ 1 ∷ []) ∷ []
+unfolding merged componentBelow firstFrom readyTick held hasRoom fits nextFit combinationsFrom move freeze shift resolve
+    delete attach begun completed schedules everyBelow sumBelow maxBelow gather
+several-resources = refl

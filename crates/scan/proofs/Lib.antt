@@ -1,6 +1,4 @@
--- Laws of the search's model.
+-- Small projects, the laws of components, and what is given for each combination.
 pub mod Examples
-pub mod Forced
-pub mod Resolve
-pub mod Starts
+pub mod Components
 pub mod Joined

@@ -1,4 +1,3 @@
--- The search's model.
-pub mod Model
+-- The scan over any project.
+pub mod Components
 pub mod Scan
-pub mod Union

@@ -1,16 +1,13 @@
--- The scan of document 000, section 4.2. Each activity requires one resource; LE and RE are its end points, the paper's
--- t_SL is the tick of the scan-line, and the actual term T stands as the set of its activities. Step 1 makes the first
--- diagram, steps 2 to 5 make a move, and a diagram of which nothing is left to freeze is a completed schedule.
-use Prim.Native.Nat.{ℕ, zero, suc, _+_, _*_}
+-- The scan of document 000, section 4.2, over any project: with several units of a resource, several resources to an
+-- activity or none, gaps, a floor and begun activities. A component takes the place that a resource has in the paper.
+use Prim.Native.Nat.{ℕ, zero, suc, _+_, _*_, max}
 use mathlib.Core.Bool.{Bool, true, false, not, cond, _&&_, _||_}
 use mathlib.Core.List.{List, [], _∷_, _++_, map, foldl}
 use lib.Dec.{leb, ltb, eqb}
-use Rattle.plan.specs.Limits.{mostResources}
-use Rattle.base.specs.Below.{everyBelow, _implies_}
-use Rattle.base.specs.Lists.{gather}
-use Rattle.sets.specs.Sets.{most, has, size}
-use Rattle.timetable.specs.Mark.{mark}
-use Rattle.scan.specs.Model.{Problem, leastBelow, never}
+use Rattle.base.specs.Below.{everyBelow, sumBelow, maxBelow, _implies_}
+use Rattle.base.specs.Lists.{gather, leastOf}
+use Rattle.schedule.specs.Project.{Project}
+use Rattle.schedule.specs.Schedule.{endOf}
 
 -- The diagram: the tick of its scan-line, which activities are placed and where they start (LE), which of them are
 -- frozen, and T.
@@ -21,91 +18,137 @@ pub record Diagram : Type 0 where
   pub frozen : ℕ → Bool
   pub term : ℕ → Bool
 
--- Of some activity.
-abbrev pub some : (ℕ → Bool) → Bool
-some test = not (everyBelow most λ i. not (test i))
+-- What `below` gives for each combination, one after the other.
+abbrev pub forEach : (List ℕ → List Diagram) → List (List ℕ) → List Diagram
+forEach below [] = []
+forEach below (c ∷ cs) = below c ++ forEach below cs
 
-module _ (q : Problem) where
+-- The first of the n ticks from x on that passes, or the one after them.
+unfoldable pub firstFrom : (ℕ → Bool) → ℕ → ℕ → ℕ
+firstFrom test zero x = x
+firstFrom test (suc n) x = elim (test x) [ true ↦ x | false ↦ firstFrom test n (suc x) ]
+
+-- `comp` tells what is contested together: it is the same for two activities that hold units of one resource.
+module _ (p : Project) (comp : ℕ → ℕ) where
+  abbrev pub some : (ℕ → Bool) → Bool
+  some test = not (everyBelow (p .size) λ i. not (test i))
+
   -- RE
   abbrev pub rightEnd : Diagram → ℕ → ℕ
-  rightEnd d i = d .starts i + q .duration i
+  rightEnd d i = endOf p (d .starts) i
 
-  abbrev pub sameResource : ℕ → ℕ → Bool
-  sameResource i k = eqb (q .resource i) (q .resource k)
+  -- The tick from which i is ready.
+  unfoldable pub readyTick : Diagram → ℕ → ℕ
+  readyTick d i =
+      max (p .floor)
+      (maxBelow (p .size) λ k. cond (p .present k && p .precedes k i) (rightEnd d k + p .gap k i) 0)
 
-  -- Definition 6: the scan-line activities, the direct ones, and those of them that are conflict-free: no other
-  -- scan-line activity requires the resource.
-  abbrev pub onLine : Diagram → ℕ → Bool
-  onLine d i = d .placed i && ltb (d .starts i) (d .tick) && leb (d .tick) (rightEnd d i)
+  -- The units of r that the frozen activities hold on tick x.
+  unfoldable pub held : Diagram → ℕ → ℕ → ℕ
+  held d x r =
+      sumBelow (p .size) λ k.
+      cond (d .frozen k && leb (d .starts k) x && ltb x (rightEnd d k)) (p .units k r) 0
+
+  -- The units that i needs are left on tick x; they are while it would run.
+  unfoldable pub hasRoom : Diagram → ℕ → ℕ → Bool
+  hasRoom d i x = everyBelow (p .resources) λ r. leb (held d x r + p .units i r) (p .capacity r)
+
+  unfoldable pub fits : Diagram → ℕ → ℕ → Bool
+  fits d i x = everyBelow (p .duration i) λ y. hasRoom d i (x + y)
+
+  -- Its next fit from x on: it fits when everything frozen has ended.
+  unfoldable pub nextFit : Diagram → ℕ → ℕ → ℕ
+  nextFit d i x = firstFrom (fits d i) (maxBelow (p .size) λ k. cond (d .frozen k) (rightEnd d k) 0) x
+
+  -- Definition 6: what is placed and not frozen, and of it what ends on the scan-line.
+  abbrev pub isLoose : Diagram → ℕ → Bool
+  isLoose d i = d .placed i && not (d .frozen i)
 
   abbrev pub isDirect : Diagram → ℕ → Bool
-  isDirect d i = onLine d i && eqb (rightEnd d i) (d .tick)
+  isDirect d i = isLoose d i && eqb (rightEnd d i) (d .tick)
 
-  abbrev pub isAlone : Diagram → ℕ → Bool
-  isAlone d i = everyBelow most λ k. (onLine d k && sameResource k i) implies eqb k i
-
-  abbrev pub isConflictFree : Diagram → ℕ → Bool
-  isConflictFree d i = isDirect d i && isAlone d i
-
-  -- Definition 7: the contested resources, and the conflict activities of one.
+  -- Definition 7: the contested components, and the conflict activities of one. By start and then number they come
+  -- after all of the component that is frozen, so that each schedule is found by one order alone.
   abbrev pub isContested : Diagram → ℕ → Bool
-  isContested d r = some λ i. isDirect d i && eqb (q .resource i) r && not (isAlone d i)
+  isContested d c = some λ i. isDirect d i && eqb (comp i) c
+
+  abbrev pub isAhead : ℕ → ℕ → ℕ → ℕ → Bool
+  isAhead a i b j = ltb a b || (eqb a b && ltb i j)
+
+  abbrev pub isNext : Diagram → ℕ → Bool
+  isNext d j =
+      everyBelow (p .size) λ k.
+      (d .frozen k && p .free k && eqb (comp k) (comp j)) implies isAhead (d .starts k) k (d .starts j) j
 
   abbrev pub inConflict : Diagram → ℕ → ℕ → Bool
-  inConflict d r i = onLine d i && eqb (q .resource i) r
+  inConflict d c j = isLoose d j && eqb (comp j) c && ltb (d .starts j) (d .tick) && isNext d j
 
-  -- Definition 8: the conflict combinations, one conflict activity for each contested resource of the n from r on.
+  -- Definition 8: the conflict combinations, one conflict activity for each contested component of the n from c on.
   unfoldable pub combinationsFrom : Diagram → ℕ → ℕ → List (List ℕ)
-  combinationsFrom d r zero = [] ∷ []
-  combinationsFrom d r (suc n) =
-      elim (isContested d r) [
+  combinationsFrom d c zero = [] ∷ []
+  combinationsFrom d c (suc n) =
+      elim (isContested d c) [
         | true ↦
-            gather most λ i. elim (inConflict d r i) [ true ↦ map (i ∷_) (combinationsFrom d (suc r) n) | false ↦ [] ]
-        | false ↦ combinationsFrom d (suc r) n
+            gather (p .size) λ i.
+            elim (inConflict d c i) [ true ↦ map (i ∷_) (combinationsFrom d (suc c) n) | false ↦ [] ]
+        | false ↦ combinationsFrom d (suc c) n
       ]
 
   abbrev pub combinations : Diagram → List (List ℕ)
-  combinations d = combinationsFrom d 0 mostResources
+  combinations d = combinationsFrom d 0 (p .size)
 
-  -- Step 2: the scan-line jumps to the next stopping time, the least right end of what is placed and in T.
+  -- In T, not in the diagram, and without a predecessor in T.
+  abbrev pub isWaiting : Diagram → ℕ → Bool
+  isWaiting d i = d .term i && not (d .placed i) && not (some λ k. d .term k && p .precedes k i)
+
+  -- Step 2: the scan-line jumps to the next stopping time: the least right end of what is placed and in T, and tick
+  -- from which something that waits is ready. It stays while something that is not frozen ends on it.
+  abbrev pub stopOf : Diagram → ℕ → List ℕ
+  stopOf d i =
+      elim (d .placed i && d .term i) [
+        | true ↦ rightEnd d i ∷ []
+        | false ↦ elim (isWaiting d i && ltb (d .tick) (readyTick d i)) [ true ↦ readyTick d i ∷ [] | false ↦ [] ]
+      ]
+
   unfoldable pub move : Diagram → Diagram
   move d =
       record {
-        tick = leastBelow most λ i. cond (d .placed i && d .term i) (rightEnd d i) never;
+        tick = leastOf (gather (p .size) (stopOf d));
         placed = d .placed;
         starts = d .starts;
         frozen = d .frozen;
         term = d .term;
       }
 
-  -- Step 3, first: the conflict-free activities are frozen.
-  unfoldable pub freeze : Diagram → Diagram
-  freeze d =
+  -- Step 3: the selected activity is frozen, and what else is placed and not frozen in its component is shifted to its
+  -- next fit.
+  unfoldable pub freeze : Diagram → ℕ → Diagram
+  freeze d j =
       record {
         tick = d .tick;
         placed = d .placed;
         starts = d .starts;
-        frozen = λ i. d .frozen i || isConflictFree d i;
+        frozen = λ i. eqb i j || d .frozen i;
         term = d .term;
       }
 
-  -- Then a conflict is resolved: the selected activity is frozen, and the other scan-line activities that require its
-  -- resource are shifted behind it.
-  unfoldable pub select : Diagram → ℕ → Diagram
-  select d j =
+  unfoldable pub shift : Diagram → ℕ → Diagram
+  shift d c =
       record {
         tick = d .tick;
         placed = d .placed;
-        starts = λ k. cond (onLine d k && sameResource k j && not (eqb k j)) (rightEnd d j) (d .starts k);
-        frozen = λ i. d .frozen i || eqb i j;
+        starts = λ k. cond (isLoose d k && eqb (comp k) c) (nextFit d k (d .starts k)) (d .starts k);
+        frozen = d .frozen;
         term = d .term;
       }
 
-  -- Step 3: both, for every contested resource, by a combination.
-  unfoldable pub resolve : List ℕ → Diagram → Diagram
-  resolve c d = foldl select (freeze d) c
+  abbrev pub select : Diagram → ℕ → Diagram
+  select d j = shift (freeze d j) (comp j)
 
-  -- Step 4: T loses the direct scan-line activities. What was direct and not selected has been shifted.
+  unfoldable pub resolve : List ℕ → Diagram → Diagram
+  resolve c d = foldl select d c
+
+  -- Step 4: T loses the frozen activities that have ended.
   unfoldable pub delete : Diagram → Diagram
   delete d =
       record {
@@ -113,21 +156,13 @@ module _ (q : Problem) where
         placed = d .placed;
         starts = d .starts;
         frozen = d .frozen;
-        term = λ i. d .term i && not (isDirect d i);
+        term = λ i. d .term i && not (d .frozen i && leb (rightEnd d i) (d .tick));
       }
 
-  -- Step 5. A resource is blocked while a frozen activity that requires it runs on beyond the scan-line.
-  abbrev pub isBlocked : Diagram → ℕ → Bool
-  isBlocked d r =
-      some λ k. d .frozen k && eqb (q .resource k) r && ltb (d .starts k) (d .tick) && ltb (d .tick) (rightEnd d k)
-
-  -- Those of T that are not in the diagram, whose own resource is not blocked and that have no predecessor in T.
+  -- Step 5: what waits, is ready and has room starts at the scan-line.
   abbrev pub canAttach : Diagram → ℕ → Bool
-  canAttach d i =
-      d .term i && not (d .placed i) && not (isBlocked d (q .resource i))
-      && not (some λ k. d .term k && has (q .preds i) k)
+  canAttach d i = isWaiting d i && leb (readyTick d i) (d .tick) && hasRoom d i (d .tick)
 
-  -- They start at the scan-line.
   unfoldable pub attach : Diagram → Diagram
   attach d =
       record {
@@ -142,43 +177,38 @@ module _ (q : Problem) where
   abbrev pub after : Diagram → List ℕ → Diagram
   after d c = attach (delete (resolve c (move d)))
 
--- The empty diagram at tick 0, T being the whole term.
-unfoldable pub empty : ℕ → Diagram
-empty present =
-    record {
-      tick = 0;
-      placed = λ i. false;
-      starts = λ i. 0;
-      frozen = λ i. false;
-      term = has present;
-    }
+  -- At the floor, with what has begun.
+  unfoldable pub begun : Diagram
+  begun =
+      record {
+        tick = p .floor;
+        placed = λ i. p .present i && not (p .free i);
+        starts = p .begun;
+        frozen = λ i. p .present i && not (p .free i);
+        term = p .present;
+      }
 
--- Step 1: the start activities, which have no predecessors, are attached.
-abbrev pub start : Problem → ℕ → Diagram
-start q present = attach q (empty present)
+  -- Step 1: what can start there is attached.
+  abbrev pub start : Diagram
+  start = attach (delete begun)
 
--- Everything has been placed and frozen.
-abbrev pub isComplete : Diagram → Bool
-isComplete d = everyBelow most λ i. d .term i implies d .frozen i
+  -- Everything has been placed and frozen.
+  abbrev pub isComplete : Diagram → Bool
+  isComplete d = everyBelow (p .size) λ i. d .term i implies d .frozen i
 
--- What `below` gives for each combination, one after the other.
-abbrev pub forEach : (List ℕ → List Diagram) → List (List ℕ) → List Diagram
-forEach below [] = []
-forEach below (c ∷ cs) = below c ++ forEach below cs
+  -- The completed diagrams that come of one, where `fuel` is above the number of moves: each freezes or deletes, or
+  -- something becomes ready.
+  unfoldable pub completed : ℕ → Diagram → List Diagram
+  completed zero d = []
+  completed (suc fuel) d =
+      elim (isComplete d) [
+        | true ↦ d ∷ []
+        | false ↦ forEach (λ c. completed fuel (after d c)) (combinations (move d))
+      ]
 
--- The completed diagrams that come of one, where `fuel` is above the number of moves: each freezes or deletes.
-unfoldable pub completed : Problem → ℕ → Diagram → List Diagram
-completed q zero d = []
-completed q (suc fuel) d =
-    elim (isComplete d) [
-      | true ↦ d ∷ []
-      | false ↦ forEach (λ c. completed q fuel (after q d c)) (combinations q (move q d))
-    ]
+  -- The schedule of a completed diagram, with a mark for an absent activity.
+  abbrev pub scheduleOf : ℕ → Diagram → List ℕ
+  scheduleOf mark d = gather (p .size) λ i. cond (p .present i) (d .starts i) mark ∷ []
 
--- The schedule of a completed diagram: the starts of the first n activities, and the mark for an absent one.
-abbrev pub scheduleOf : ℕ → Diagram → List ℕ
-scheduleOf n d = gather n λ i. cond (d .frozen i) (d .starts i) mark ∷ []
-
--- The schedules that the scan finds for the activities `present`.
-unfoldable pub schedules : Problem → ℕ → ℕ → List (List ℕ)
-schedules q n present = map (scheduleOf n) (completed q (suc (2 * size present most)) (start q present))
+  unfoldable pub schedules : ℕ → List (List ℕ)
+  schedules mark = map (scheduleOf mark) (completed (suc (3 * p .size)) start)

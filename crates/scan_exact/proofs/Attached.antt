@@ -1,325 +1,273 @@
--- Steps 4 and 5. Where nothing that is not frozen ends at the scan-line any more, what ends there leaves T; then what
--- can start at the scan-line is placed there.
+-- Steps 4 and 5: what is frozen and has ended leaves T, and what can start at the scan-line is placed there.
 use Prim.Native.Nat.{ℕ, suc, _≤_, _<_}
-use native.Mathlib.Decide.{ℕ-discrete, decLe, decLt}
-use native.Mathlib.Nat.{le-antisymm}
+use native.Mathlib.Decide.{ℕ-discrete, decLe}
 use native.Mathlib.Omega.{arith}
-use mathlib.Core.Bool.{Bool, true, false, not, _&&_, _||_, or-true}
-use mathlib.Core.Path.{_≡_, refl, sym, ap, _∙_}
+use mathlib.Core.Bool.{Bool, true, false, not, _&&_, _||_}
+use mathlib.Core.List.{List}
 use mathlib.Core.Logic.{by-cases}
-use lib.Dec.{ltb, eqb}
-use borrow.Author.Tests.{ltb-true, eqb-true, lt-ltb, eq-eqb, not-true}
-use Rattle.schedule.specs.Project.{Project}
+use mathlib.Core.Path.{_≡_, sym, ap, _∙_}
+use lib.Dec.{leb}
+use borrow.Author.Tests.{leb-true, le-leb, not-true, not-false}
+use Rattle.base.specs.Below.{everyBelow}
 use Rattle.base.proofs.Bools.{by-bool, true-not-false, both, and-left, and-right, cond-true, cond-false}
-use Rattle.schedule.proofs.Load.{Has}
-use Rattle.schedule.proofs.OneUnit.{Bench}
-use Rattle.sets.specs.Sets.{most, has}
-use Rattle.branching.proofs.Partial.{Frozen, Open, after-ready, after-avail, soonest-le}
-use Rattle.branching.proofs.Alike.{Alike, state-alike}
-use Rattle.scan.specs.Scan.{Diagram, some, rightEnd, isDirect, delete, canAttach, attach}
-use Rattle.scan.specs.Model.{Problem}
-use Rattle.scan_exact.proofs.Shows.{Models}
-use Rattle.scan_exact.proofs.Standing.{Standing, endIn, soonestIn, right-end, soonest-mono, is-frozen}
-use Rattle.scan_exact.proofs.Line.{direct-is, direct-of, some-not, some-none}
+use Rattle.base.proofs.Below.{every-at, every-of, every-fails}
+use Rattle.schedule.specs.Project.{Project}
+use Rattle.schedule.specs.Schedule.{Starts, endOf}
+use Rattle.schedule.proofs.Load.{Has, among}
+use Rattle.schedule.proofs.Agree.{Agree, agree-sym}
+use Rattle.branching.proofs.Room.{Open, Room, Soonest}
+use Rattle.branching.proofs.Fit.{fits-from}
+use Rattle.branching.proofs.Under.{Under}
+use Rattle.branching.proofs.Rows.{Rows, rows-same}
+use Rattle.scan.specs.Scan.{Diagram}
+use Rattle.scan.specs.Scan.{some, rightEnd, readyTick, hasRoom, isWaiting, delete, canAttach, attach}
+use Rattle.scan_exact.proofs.Rooms.{room-agree, has-room, room-has, ready-after, ready-floor, ready-least}
+use Rattle.scan_exact.proofs.Standing.{Scannable, Standing, is-frozen, node-agree, under-agree}
+use Rattle.scan_exact.proofs.Selected.{soonest-agree}
 
--- What is placed and not frozen ends after the scan-line.
-abbrev pub Settled : Project → Diagram → Type 0
-Settled p d = (i : ℕ) → d .placed i ≡ true → d .frozen i ≡ false → d .tick < endIn p d i
+-- What is frozen and in T ends behind the scan-line.
+abbrev pub Gone : Project → Diagram → Type 0
+Gone p d = (i : ℕ) → d .frozen i ≡ true → d .term i ≡ true → d .tick < endOf p (d .starts) i
 
-module _ (p : Project) (resource : ℕ → ℕ) (bench : Bench p resource) (q : Problem) (present : ℕ)
-    (given : Models p resource q present) where
-  module _ (d : Diagram) (standing : Standing p resource d (d .tick) (d .tick)) (settled : Settled p d) where
-    not-direct : (i : ℕ) → (d .placed i ≡ true → endIn p d i ≡ d .tick → ⊥) → isDirect q d i ≡ false
-    not-direct i none =
-        by-bool
-        (isDirect q d i)
-        (λ y. let (c, e) = direct-is p resource bench q present given d standing i y in absurd (none (c .placed) e))
-        (λ z. z)
+-- Some activity passes a test, or none does.
+module _ (p : Project) (comp : ℕ → ℕ) (test : ℕ → Bool) where
+  pub some-is : some p comp test ≡ true → (i : ℕ) × (i < p .size) × (test i ≡ true)
+  some-is y =
+      let (i, l, z) = every-fails (p .size) (λ i. not (test i)) (not-true (everyBelow (p .size) λ i. not (test i)) y) in
+      (i, l, not-false (test i) z)
 
-    later : (i : ℕ) → d .frozen i ≡ true → d .term i ≡ true → isDirect q d i ≡ false → d .tick < endIn p d i
-    later i y l z =
-        by-cases
-        (ℕ-discrete (endIn p d i) (d .tick))
-        (λ e.
-        true-not-false (direct-of p resource bench q present given d standing i (standing .within i y) e) z)
-        (λ ne. omega (arith, standing .ended i y l))
+  pub some-of : (i : ℕ) → i < p .size → test i ≡ true → some p comp test ≡ true
+  some-of i l y =
+      by-bool (everyBelow (p .size) λ i. not (test i))
+      (λ all. true-not-false y (not-true (test i) (every-at (p .size) (λ i. not (test i)) all i l)))
+      (λ z. ap not z)
 
-    pub delete-standing : Standing p resource (delete q d) (suc (d .tick)) (d .tick)
+  pub some-not : some p comp test ≡ false → (i : ℕ) → i < p .size → test i ≡ false
+  some-not z i l =
+      not-true (test i)
+      (every-at (p .size) (λ i. not (test i)) (not-false (everyBelow (p .size) λ i. not (test i)) z) i l)
+
+  pub some-none : ((i : ℕ) → i < p .size → test i ≡ true → ⊥) → some p comp test ≡ false
+  some-none none =
+      ap not
+      (every-of (p .size) (λ i. not (test i))
+      (λ i l. by-bool (test i) (λ y. absurd (none i l y)) (λ z. ap not z)))
+
+module _ (p : Project) (comp : ℕ → ℕ) (given : Scannable p comp) where
+  -- Step 4.
+  module _ (d : Diagram) (standing : Standing p d (d .tick)) where
+    pub delete-standing : Standing p (delete p comp d) (delete p comp d .tick)
     unfolding delete
     delete-standing =
         record {
-          state = standing .state;
+          node = standing .node;
           inside = standing .inside;
-          known = λ i y. standing .known i (and-left (d .term i) (not (isDirect q d i)) y);
+          known =
+              λ i y.
+              standing .known i (and-left (d .term i) (not (d .frozen i && leb (rightEnd p comp d i) (d .tick))) y);
           within = standing .within;
           waiting =
               λ i h z.
-              both (standing .waiting i h z) (ap not (not-direct i (λ y e. omega (arith, settled i y z))));
+              both (standing .waiting i h z)
+              (ap (λ (x : Bool). not (x && leb (rightEnd p comp d i) (d .tick))) z);
           running =
-              λ i y l. both (standing .running i y (omega arith)) (ap not (not-direct i (λ y′ e. omega arith)));
-          ended =
               λ i y l.
-              later i y (and-left (d .term i) (not (isDirect q d i)) l)
-              (not-true (isDirect q d i) (and-right (d .term i) (not (isDirect q d i)) l));
-          begun = standing .begun;
-          behind = λ i k y h o. let (f, l) = standing .behind i k y h o in (f, omega arith);
+              both (standing .running i y l)
+              (ap not
+              (by-bool (d .frozen i && leb (rightEnd p comp d i) (d .tick))
+              (λ h.
+              absurd
+              (omega (
+                arith,
+                l,
+                leb-true (rightEnd p comp d i) (d .tick)
+                    (and-right (d .frozen i) (leb (rightEnd p comp d i) (d .tick)) h),
+              )))
+              (λ z. z)));
+          before = standing .before;
+          behind = standing .behind;
           at = standing .at;
           unplaced = standing .unplaced;
-          late =
-              λ i o.
-              by-bool
-              (d .placed i)
-              (λ y. omega (arith, settled i y (o .waits), standing .at i y (o .waits)))
-              (λ z. omega (arith, standing .unplaced i o z, bench .sound .lasts i (o .has)));
-          early = standing .early;
+          late = standing .late;
         }
 
-  module _ (d : Diagram) (standing : Standing p resource d (suc (d .tick)) (d .tick)) where
-    frozen-is : (i : ℕ) → d .frozen i ≡ true → Frozen p (d .frozen) i
-    frozen-is = is-frozen p resource d (suc (d .tick)) (d .tick) standing
-
-    has-frozen : (i : ℕ) → d .frozen i ≡ true → Has p i
-    has-frozen i y = standing .inside i (standing .within i y)
-
-    end-at : (i : ℕ) → Has p i → rightEnd q d i ≡ endIn p d i
-    end-at = right-end p resource q present given d
-
-    -- It is open and can start at the scan-line.
-    record Attaches (i : ℕ) : Type 0 where
-      is-open : Open p (d .frozen) i
-      outside : d .placed i ≡ false
-      soon : soonestIn p resource d i ≤ d .tick
-
-    -- k runs on beyond the scan-line on the resource of i; k precedes i and is in T.
-
-    abbrev blocks : ℕ → ℕ → Bool
-    blocks i =
-        λ k.
-        d .frozen k && eqb (q .resource k) (q .resource i) && ltb (d .starts k) (d .tick)
-        && ltb (d .tick) (rightEnd q d k)
-
-    abbrev detains : ℕ → ℕ → Bool
-    detains i = λ k. d .term k && has (q .preds i) k
-
-    below : (i : ℕ) → Has p i → i < most
-    below i h = omega (arith, h .below, given .small)
-
-    unblocked : (i k : ℕ) → Has p i → some (blocks i) ≡ false → d .frozen k ≡ true
-        → resource k ≡ resource i → endIn p d k ≤ d .tick
-    unblocked i k h z y on =
-        let hk : Has p k = has-frozen k y in
-        by-cases
-        (decLt (d .tick) (endIn p d k))
+    pub delete-gone : Gone p (delete p comp d)
+    unfolding delete
+    delete-gone i y t =
+        by-cases (decLe (rightEnd p comp d i) (d .tick))
         (λ l.
-        true-not-false
-        (both
-        (both
-        (both y (eq-eqb (q .resource k) (q .resource i) (given .resources k hk ∙ on ∙ sym (given .resources i h))))
-        (lt-ltb (d .starts k) (d .tick) (standing .begun k y)))
-        (lt-ltb (d .tick) (rightEnd q d k) (omega (arith, end-at k hk))))
-        (some-not (blocks i) z k (below k hk)))
-        (λ g. omega arith)
+        true-not-false (both y (le-leb (rightEnd p comp d i) (d .tick) l))
+        (not-true (d .frozen i && leb (rightEnd p comp d i) (d .tick))
+        (and-right (d .term i) (not (d .frozen i && leb (rightEnd p comp d i) (d .tick))) t)))
+        (λ g. omega (arith, g))
 
-    released : (i k : ℕ) → Has p i → some (detains i) ≡ false → Has p k
-        → p .precedes k i ≡ true → (d .frozen k ≡ true) × (endIn p d k ≤ d .tick)
-    released i k h z hk o =
-        let out : d .term k ≡ false =
-        by-bool
-        (d .term k)
-        (λ y.
-        true-not-false (both y (given .order k i hk h ∙ o))
-        (some-not (detains i) z k (below k hk)))
-        (λ z′. z′)
-        in
-        let f : d .frozen k ≡ true =
-        by-bool (d .frozen k) (λ y. y) (λ z′. true-not-false (standing .waiting k hk z′) out) in (
-          f,
-          by-cases
-              (decLt (d .tick) (endIn p d k))
-              (λ l. true-not-false (standing .running k f l) out)
-              (λ g. omega arith),
-        )
+  -- Step 5.
+  module _ (d : Diagram) (standing : Standing p d (d .tick)) (gone : Gone p d) where
+    abbrev F : ℕ → Bool
+    F = d .frozen
 
-    attaches-is : (i : ℕ) → canAttach q d i ≡ true → Attaches i
-    attaches-is i y =
-        let held : Bool = some (detains i) in
-        let blocked : Bool = some (blocks i) in
-        let three : (d .term i && not (d .placed i) && not blocked) ≡ true =
-        and-left (d .term i && not (d .placed i) && not blocked) (not held) y in
-        let two : (d .term i && not (d .placed i)) ≡ true =
-        and-left (d .term i && not (d .placed i)) (not blocked) three in
-        let h : Has p i = standing .known i (and-left (d .term i) (not (d .placed i)) two) in
-        let out : d .placed i ≡ false = not-true (d .placed i) (and-right (d .term i) (not (d .placed i)) two) in
-        let open-way : blocked ≡ false =
-        not-true blocked (and-right (d .term i && not (d .placed i)) (not blocked) three) in
-        let no-hold : held ≡ false =
-        not-true held (and-right (d .term i && not (d .placed i) && not blocked) (not held) y) in
+    abbrev S : Starts
+    S = d .starts
+
+    abbrev R : Starts
+    R = attach p comp d .starts
+
+    abbrev precedesIn : ℕ → ℕ → Bool
+    precedesIn i k = d .term k && p .precedes k i
+
+    -- It is open and has room at the scan-line.
+    record Attaches (i : ℕ) : Type 0 where
+      is-open : Open p F i
+      outside : d .placed i ≡ false
+      room : Room p F S i (d .tick)
+
+    attach-is : (i : ℕ) → canAttach p comp d i ≡ true → Attaches i
+    attach-is i y =
+        let two : (isWaiting p comp d i && leb (readyTick p comp d i) (d .tick)) ≡ true =
+        and-left (isWaiting p comp d i && leb (readyTick p comp d i) (d .tick)) (hasRoom p comp d i (d .tick)) y in
+        let w : isWaiting p comp d i ≡ true =
+        and-left (isWaiting p comp d i) (leb (readyTick p comp d i) (d .tick)) two in
+        let ready : readyTick p comp d i ≤ d .tick =
+        leb-true (readyTick p comp d i) (d .tick)
+        (and-right (isWaiting p comp d i) (leb (readyTick p comp d i) (d .tick)) two) in
+        let first : (d .term i && not (d .placed i)) ≡ true =
+        and-left (d .term i && not (d .placed i)) (not (some p comp (precedesIn i))) w in
+        let none : some p comp (precedesIn i) ≡ false =
+        not-true (some p comp (precedesIn i))
+        (and-right (d .term i && not (d .placed i)) (not (some p comp (precedesIn i))) w) in
+        let outside : d .placed i ≡ false =
+        not-true (d .placed i) (and-right (d .term i) (not (d .placed i)) first) in
+        let h : Has p i = standing .known i (and-left (d .term i) (not (d .placed i)) first) in
         record {
           is-open =
               record {
                 has = h;
-                waits = by-bool (d .frozen i) (λ f. true-not-false (standing .within i f) out) (λ z. z);
-                freed = λ k hk o. released i k h no-hold hk o .0;
+                waits =
+                    by-bool (d .frozen i) (λ f. true-not-false (standing .within i f) outside) (λ z. z);
+                freed =
+                    λ k hk o.
+                    by-bool (d .frozen k) (λ f. f)
+                    (λ z.
+                    true-not-false (both (standing .waiting k hk z) o)
+                    (some-not p comp (precedesIn i) none k (hk .below)));
               };
-          outside = out;
-          soon =
-              soonest-le
-              p
-              resource
-              (d .frozen)
-              (d .starts)
-              i
-              (d .tick)
-              (λ k f o. released i k h no-hold (has-frozen k (f .there)) o .1)
-              (λ k f e. unblocked i k h open-way (f .there) e);
+          outside = outside;
+          room =
+              record {
+                from-floor = omega (arith, ready-floor p comp d i, ready);
+                ready = λ k f o. omega (arith, ready-after p comp d (standing .node) i k f o, ready);
+                fits =
+                    λ u r l from to.
+                    fits-from p F S i (d .tick)
+                    (has-room p comp d i (d .tick)
+                    (and-right (isWaiting p comp d i && leb (readyTick p comp d i) (d .tick))
+                    (hasRoom p comp d i (d .tick)) y))
+                    (λ k f later to′. absurd (omega (arith, standing .before k (f .there), later)))
+                    u from to r l;
+              };
         }
 
-    attaches-of : (i : ℕ) → Attaches i → canAttach q d i ≡ true
-    attaches-of i a =
-        let h : Has p i = a .is-open .has in
+    attach-of : (i : ℕ) → Attaches i → canAttach p comp d i ≡ true
+    attach-of i a =
+        let o : Open p F i = a .is-open in
         both
         (both
-        (both (standing .waiting i h (a .is-open .waits)) (ap not (a .outside)))
-        (ap not (
-        some-none
-        (blocks i)
+        (both (both (standing .waiting i (o .has) (o .waits)) (ap not (a .outside)))
+        (ap not
+        (some-none p comp (precedesIn i)
         (λ k l y.
-        let on : Bool = eqb (q .resource k) (q .resource i) in
-        let began : Bool = ltb (d .starts k) (d .tick) in
-        let two : (d .frozen k && on) ≡ true =
-        and-left (d .frozen k && on) began
-        (and-left (d .frozen k && on && began) (ltb (d .tick) (rightEnd q d k)) y) in
-        let f : d .frozen k ≡ true = and-left (d .frozen k) on two in
-        let hk : Has p k = has-frozen k f in
-        omega (
-          arith,
-          a .soon,
-          end-at k hk,
-          ltb-true (d .tick) (rightEnd q d k)
-              (and-right (d .frozen k && on && began) (ltb (d .tick) (rightEnd q d k)) y),
-          after-avail p resource (d .frozen) (d .starts) i k (frozen-is k f)
-              (sym (given .resources k hk)
-              ∙ eqb-true (q .resource k) (q .resource i) (and-right (d .frozen k) on two)
-              ∙ given .resources i h),
-        ))
-        )))
-        (ap not (
-        some-none
-        (detains i)
-        (λ k l y.
-        let there : d .term k ≡ true = and-left (d .term k) (has (q .preds i) k) y in
-        let hk : Has p k = standing .known k there in
-        let o : p .precedes k i ≡ true =
-        sym (given .order k i hk h) ∙ and-right (d .term k) (has (q .preds i) k) y in
-        let f : d .frozen k ≡ true = a .is-open .freed k hk o in
-        omega (
-          arith,
-          a .soon,
-          standing .ended k f there,
-          after-ready p resource (d .frozen) (d .starts) i k (frozen-is k f) o,
-        ))
-        ))
+        let t : d .term k ≡ true = and-left (d .term k) (p .precedes k i) y in
+        let c : p .precedes k i ≡ true = and-right (d .term k) (p .precedes k i) y in
+        let f : d .frozen k ≡ true = o .freed k (standing .known k t) c in
+        omega (arith, gone k f t, a .room .ready k (is-frozen p d (d .tick) standing k f) c)))))
+        (le-leb (readyTick p comp d i) (d .tick)
+        (ready-least p comp d i (d .tick) (a .room .from-floor)
+        (λ k h c. a .room .ready k (record { below = h .below; there = o .freed k h c }) c))))
+        (room-has p comp d i (d .tick)
+        (λ r l. a .room .fits (d .tick) r l (omega arith) (omega (arith, given .sound .lasts i (o .has)))))
 
-    abbrev next : Diagram
-    next = attach q d
+    -- Where everything starts.
+    placed-not : (i : ℕ) → d .placed i ≡ true → canAttach p comp d i ≡ false
+    placed-not i y =
+        by-bool (canAttach p comp d i) (λ c. true-not-false y (attach-is i c .outside)) (λ z. z)
 
-    attach-start : (i : ℕ) → d .placed i ≡ true → attach q d .starts i ≡ d .starts i
+    pub attach-kept : (i : ℕ) → d .placed i ≡ true → attach p comp d .starts i ≡ d .starts i
     unfolding attach
-    attach-start i y =
-        by-bool
-        (canAttach q d i)
-        (λ c. true-not-false y (attaches-is i c .outside))
-        (λ z. cond-false (d .tick) (d .starts i) z)
+    attach-kept i y = cond-false (d .tick) (d .starts i) (placed-not i y)
 
-    frozen-start : (i : ℕ) → d .frozen i ≡ true → next .starts i ≡ d .starts i
-    frozen-start i y = attach-start i (standing .within i y)
-
-    pub attach-alike : Alike p (d .frozen) (attach q d .frozen) (d .starts) (attach q d .starts)
+    attach-new : (i : ℕ) → canAttach p comp d i ≡ true → R i ≡ d .tick
     unfolding attach
-    attach-alike = record { sets = λ i l. refl; starts = λ i f. sym (frozen-start i (f .there)) }
+    attach-new i y = cond-true (d .tick) (d .starts i) y
 
-    soonest-same : (i : ℕ) → soonestIn p resource next i ≡ soonestIn p resource d i
-    unfolding attach
-    soonest-same i =
-        le-antisymm
-        (soonest-mono p resource (d .frozen) (d .frozen) (next .starts) (d .starts) i
-        (λ k f. (f, frozen-start k (f .there))))
-        (soonest-mono p resource (d .frozen) (d .frozen) (d .starts) (next .starts) i
-        (λ k f. (f, sym (frozen-start k (f .there)))))
+    agrees : Agree (among p F) S R
+    agrees i f = sym (attach-kept i (standing .within i (f .there)))
 
-    split : {C : Type 0} (i : ℕ) → next .placed i ≡ true → (d .placed i ≡ true → C)
-        → (canAttach q d i ≡ true → Attaches i → C) → C
+    back : (i x : ℕ) → Room p F R i x → Room p F S i x
+    back i x = room-agree p F R S i x (agree-sym (among p F) S R agrees)
+
+    split : {C : Type 0} (i : ℕ) → attach p comp d .placed i ≡ true → (d .placed i ≡ true → C)
+        → (canAttach p comp d i ≡ true → C) → C
     unfolding attach
     split i y old new =
-        by-bool
-        (d .placed i)
-        old
-        (λ z.
-        let c : canAttach q d i ≡ true = sym (ap (λ (x : Bool). x || canAttach q d i) z) ∙ y in
-        new c (attaches-is i c))
+        by-bool (d .placed i) old (λ z. new (sym (ap (λ (x : Bool). x || canAttach p comp d i) z) ∙ y))
 
-    pub attach-standing : Standing p resource (attach q d) (suc (d .tick)) (suc (d .tick))
+    unplaced-before : (i : ℕ) → attach p comp d .placed i ≡ false
+        → (d .placed i ≡ false) × (canAttach p comp d i ≡ false)
+    unfolding attach
+    unplaced-before i z =
+        let old : d .placed i ≡ false =
+        by-bool (d .placed i) (λ y. true-not-false (ap (λ (x : Bool). x || canAttach p comp d i) y) z) (λ n. n) in
+        (old, sym (ap (λ (x : Bool). x || canAttach p comp d i) old) ∙ z)
+
+    soon : (i : ℕ) → attach p comp d .placed i ≡ true → d .frozen i ≡ false → Soonest p F R i (R i)
+    soon i y z =
+        split i y
+        (λ old. rw (attach-kept i old) (soonest-agree p F S R i (S i) agrees (standing .at i old z)))
+        (λ new.
+        let a : Attaches i = attach-is i new in
+        rw (attach-new i new)
+        (soonest-agree p F S R i (d .tick) agrees
+        (record {
+          room = a .room;
+          least = λ x room. standing .unplaced i (a .is-open) (a .outside) x room;
+        })))
+
+    pub attach-standing : Standing p (attach p comp d) (suc (d .tick))
     unfolding attach
     attach-standing =
         record {
-          state =
-              state-alike p resource (d .frozen) (d .frozen) (d .starts) (next .starts) bench attach-alike
-              (standing .state);
-          inside = λ i y. split i y (standing .inside i) (λ c a. a .is-open .has);
+          node = node-agree p F S R agrees (standing .node);
+          inside = λ i y. split i y (standing .inside i) (λ c. attach-is i c .is-open .has);
           known = standing .known;
-          within = λ i y. ap (λ (x : Bool). x || canAttach q d i) (standing .within i y);
+          within = λ i y. ap (λ (x : Bool). x || canAttach p comp d i) (standing .within i y);
           waiting = standing .waiting;
-          running = λ i y l. standing .running i y (omega (arith, frozen-start i y));
-          ended = λ i y l. omega (arith, frozen-start i y, standing .ended i y l);
-          begun = λ i y. omega (arith, frozen-start i y, standing .begun i y);
+          running =
+              λ i y l. standing .running i y (omega (arith, l, attach-kept i (standing .within i y)));
+          before = λ i y. omega (arith, standing .before i y, attach-kept i (standing .within i y));
           behind =
-              λ i k y h o.
-              split
-              {C = (d .frozen k ≡ true) × (endIn p next k < suc (d .tick))}
-              i
-              y
-              (λ old.
-              let (f, l) = standing .behind i k old h o in
-              (f, omega (arith, frozen-start k f)))
-              (λ c a.
-              let f : d .frozen k ≡ true = a .is-open .freed k h o in (
-                f,
-                omega (
-                  arith,
-                  frozen-start k f,
-                  a .soon,
-                  after-ready p resource (d .frozen) (d .starts) i k (frozen-is k f) o,
-                ),
-              ));
-          at =
-              λ i y z.
-              split
-              i
-              y
-              (λ old. attach-start i old ∙ standing .at i old z ∙ sym (soonest-same i))
-              (λ c a.
-              omega (
-                arith,
-                cond-true (d .tick) (d .starts i) c,
-                a .soon,
-                standing .unplaced i (a .is-open) (a .outside),
-                soonest-same i,
-              ));
+              λ i k y h o. split i y (λ old. standing .behind i k old h o) (λ c. attach-is i c .is-open .freed k h o);
+          at = soon;
           unplaced =
-              λ i o z.
-              by-cases
-              (decLe (soonestIn p resource d i) (d .tick))
-              (λ l.
-              by-bool
-              (d .placed i)
-              (λ y. true-not-false (ap (λ (x : Bool). x || canAttach q d i) y) z)
-              (λ out.
+              λ i o z x room.
+              let (old, off) = unplaced-before i z in
+              let low : d .tick ≤ x = standing .unplaced i o old x (back i x room) in
+              by-cases (ℕ-discrete x (d .tick))
+              (λ e.
               true-not-false
-              (ap (λ (x : Bool). d .placed i || x)
-              (attaches-of i (record { is-open = o; outside = out; soon = l }))
-              ∙ or-true (d .placed i))
-              z))
-              (λ g. omega (arith, soonest-same i));
-          late = λ i o. omega (arith, standing .late i o, soonest-same i);
-          early = λ i y. omega (arith, frozen-start i y, standing .early i y);
+              (attach-of i (record { is-open = o; outside = old; room = rw e at (back i x room) })) off)
+              (λ ne. omega (arith, low, ne));
+          late = λ i o x room. standing .late i o x (back i x room);
         }
+
+    pub attach-gone : Gone p (attach p comp d)
+    unfolding attach
+    attach-gone i y t = omega (arith, gone i y t, attach-kept i (standing .within i y))
+
+    pub attach-rows : (mark : ℕ) (rows : List (List ℕ))
+        → Rows p mark (Under p comp (attach p comp d .frozen) (attach p comp d .starts)) rows
+        → Rows p mark (Under p comp (d .frozen) (d .starts)) rows
+    unfolding attach
+    attach-rows mark rows =
+        rows-same p mark (Under p comp F R) (Under p comp F S) rows
+        (λ T _ u. under-agree p comp F R S T (agree-sym (among p F) S R agrees) u)
+        (λ T _ u. under-agree p comp F S R T agrees u)

@@ -1,158 +1,171 @@
--- At a state that has activities left the key is the tick and a resource contested on it, and its choices are the
--- activities that branch.
-use Prim.Native.Nat.{ℕ, _+_, _*_, _/_, _%_, _≤_, _<_}
+-- The choices at a stop: the conflict activities of a contested component are the branches of its node.
+use Prim.Native.Nat.{ℕ, _<_}
 use native.Mathlib.Omega.{arith}
-use mathlib.Core.Bool.{Bool, true, false, cond, _&&_}
-use mathlib.Core.Path.{_≡_, sym, _∙_}
-use mathlib.Core.Logic.{_≢_}
-use lib.Dec.{eqb, ltb}
-use borrow.Author.Tests.{eqb-true, eq-eqb, ltb-true, lt-ltb}
-use Rattle.schedule.specs.Bounds.{work}
+use mathlib.Core.Bool.{true, false, not, _&&_}
+use mathlib.Core.List.{List, List·Memᴰ}
+use mathlib.Core.Path.{_≡_, sym, ap, _∙_}
+use lib.Dec.{ltb, eqb}
+use borrow.Author.Tests.{eqb-true, eq-eqb, ltb-true, lt-ltb, not-true}
+use Rattle.base.specs.Below.{_implies_}
+use Rattle.base.specs.Lists.{gather}
+use Rattle.base.proofs.Bools.{by-bool, both, and-left, and-right}
+use Rattle.base.proofs.Below.{every-at, every-of, implies-elim, implies-intro}
 use Rattle.schedule.specs.Project.{Project}
-use Rattle.schedule.specs.Schedule.{Starts}
-use Rattle.base.proofs.Bools.{by-bool, both, and-left, and-right, cond-true, cond-false}
-use Rattle.base.proofs.Below.{cond-mono, sum-le-but}
-use Rattle.schedule.proofs.Load.{Has}
-use Rattle.sets.specs.Sets.{most}
-use Rattle.sets.proofs.Laws.{has-some}
-use Rattle.branching.proofs.Partial.{Open, soonest, soonest-le, Ranked, some-open}
-use Rattle.branching.proofs.Tick.{soonestEnd, Tick, Branches}
-use Rattle.scan.proofs.Forced.{least-le, least-of}
-use Rattle.scan.specs.Model as model
-use Rattle.scan.specs.Model.{Problem, never}
-use Rattle.plan.specs.Limits.{mostResources, packing}
-use Rattle.scan_exact.proofs.Shows.{Models, Shows, frozen, startsAt, workOf, present-has, left-waits, end-at}
-use Rattle.scan_exact.proofs.Shows.{earliest-is, open-is, open-of}
+use Rattle.schedule.specs.Schedule.{endOf}
+use Rattle.branching.proofs.Room.{Frozen, Open, Soonest}
+use Rattle.branching.proofs.Under.{Ahead, Under, LeastEnd, Choice, ahead-is, ahead-of}
+use Rattle.branching.proofs.Rows.{Rows, branch-rows}
+use Rattle.scan.specs.Scan.{Diagram}
+use Rattle.scan.specs.Scan.{readyTick, nextFit, rightEnd, isLoose, isDirect, isContested, isAhead, isNext}
+use Rattle.scan.specs.Scan.{inConflict, select}
+use Rattle.scan_exact.proofs.Standing.{Scannable, Standing, placed-open, soonest-open, soonest-same}
+use Rattle.scan_exact.proofs.Selected.{select-rows}
+use Rattle.scan_exact.proofs.Attached.{some-is}
 
--- With the duration of an activity that is not among them, the durations of a set are within the sum of all.
-pub work-with : (p : Project) (F : ℕ → Bool) → ((i : ℕ) → i < p .size → F i ≡ true → p .present i ≡ true) → (j : ℕ)
-    → Has p j → F j ≡ false → workOf p F + p .duration j ≤ work p
-unfolding work
-work-with p F inside j h z =
-    omega (
-      arith,
-      sum-le-but
-          (p .size)
-          (λ k. cond (F k) (p .duration k) 0)
-          (λ k. cond (p .present k) (p .duration k) 0)
-          j
-          (p .duration j)
-          0
-          (h .below)
-          (λ i l ne. cond-mono (F i) (p .present i) (p .duration i) (inside i l))
-          (omega (arith, cond-false (p .duration j) 0 z, cond-true (p .duration j) 0 (h .there))),
-    )
+module _ (p : Project) (comp : ℕ → ℕ) (given : Scannable p comp) (e : Diagram) (standing : Standing p e (e .tick))
+    (c : ℕ) where
+  abbrev soonIn : ℕ → ℕ
+  soonIn i = nextFit p comp e i (readyTick p comp e i)
 
-module _ (p : Project) (resource : ℕ → ℕ) (q : Problem) (present : ℕ) (given : Models p resource q present)
-    (s : model.State) (shows : Shows p resource q present s) where
-  F : ℕ → Bool
-  F = frozen present s
+  soon : (i : ℕ) → Open p (e .frozen) i → Soonest p (e .frozen) (e .starts) i (soonIn i)
+  soon i o = soonest-open p e (e .tick) standing comp given i o
 
-  S : Starts
-  S = startsAt q s
+  -- What is placed and not frozen stands there.
+  stands-at : (i : ℕ) → e .placed i ≡ true → e .frozen i ≡ false → e .starts i ≡ soonIn i
+  stands-at i y z =
+      soonest-same p (e .frozen) (e .starts) i (e .starts i) (soonIn i) (standing .at i y z)
+      (soon i (placed-open p e (e .tick) standing i y z))
 
-  -- Nothing that is open starts after the durations of the frozen ones.
-  pub soonest-early : (i : ℕ) → soonest p resource (frozen present s) (startsAt q s) i ≤ workOf p (frozen present s)
-  soonest-early i =
-      soonest-le
-      p
-      resource
-      (frozen present s)
-      (startsAt q s)
-      i
-      (workOf p (frozen present s))
-      (λ k f o. omega (arith, end-at p resource q present given s shows k f, shows .early k f))
-      (λ k f e. omega (arith, end-at p resource q present given s shows k f, shows .early k f))
-
-  pub finish-is : (i : ℕ) → Has p i → model.finish q s i ≡ soonestEnd p resource (frozen present s) (startsAt q s) i
-  unfolding model.finish
-  finish-is i h = omega (arith, earliest-is p resource q present given s shows i h, given .durations i h)
-
-  key-of : (i : ℕ) → Open p F i → model.keyOf q s i ≡ packing * soonestEnd p resource F S i + resource i
-  unfolding model.keyOf F S
-  key-of i o =
-      cond-true (packing * model.finish q s i + q .resource i) never (open-of p resource q present given s shows i o)
-      ∙ omega (arith, finish-is i (o .has), given .resources i (o .has))
-
-  key-small : (i : ℕ) → Open p F i → model.keyOf q s i < never
-  unfolding F S
-  key-small i o =
-      omega (
-        arith,
-        key-of i o,
-        soonest-early i,
-        work-with p F (shows .state .inside) i (o .has) (o .waits),
-        given .few i (o .has),
-        given .short,
-      )
-
-  -- A key that is not the largest number is that of an open activity.
-  key-open : (i : ℕ) → model.keyOf q s i < never → Open p F i
-  unfolding model.keyOf F
-  key-open i l =
-      by-bool
-      (model.isOpen q s i)
-      (λ y. open-is p resource q present given s shows i y)
-      (λ z. absurd (omega (arith, cond-false (packing * model.finish q s i + q .resource i) never z)))
-
-  open-below : (i : ℕ) → Open p F i → i < most
-  open-below i o = omega (arith, o .has .below, given .small)
-
-  key-le : (i : ℕ) → Open p F i → model.key q s ≤ model.keyOf q s i
-  unfolding model.key
-  key-le i o = least-le most (model.keyOf q s) i (open-below i o)
-
-  pub tick :
-      (rank : ℕ → ℕ) → Ranked p rank → s .left ≢ 0 → Tick p resource (frozen present s) (startsAt q s)
-      (model.key q s / mostResources) (model.key q s % mostResources)
-  unfolding model.key F S
-  tick rank ranked some =
-      let (k, _, y) = has-some most (s .left) (shows .narrow) some in
-      let hk : Has p k = present-has p resource q present given k (shows .inside k y) in
-      let (i, o) = some-open p F rank ranked k hk (left-waits p resource q present given s shows k y) in
-      let (j, l, e) = least-of most (model.keyOf q s) (omega (arith, key-le i o, key-small i o)) in
-      let oj : Open p F j = key-open j (omega (arith, key-le i o, key-small i o)) in
-      let this : model.key q s ≡ packing * soonestEnd p resource F S j + resource j = omega (arith, key-of j oj) in
-      let low : resource j < mostResources = given .few j (oj .has) in
+  -- A component that is contested: one of it that is not frozen ends first of all.
+  contested : isContested p comp e c ≡ true → LeastEnd p comp (e .frozen) soonIn (e .tick) c
+  contested some =
+      let (i, l, y) = some-is p comp (λ i. isDirect p comp e i && eqb (comp i) c) some in
+      let direct : isDirect p comp e i ≡ true = and-left (isDirect p comp e i) (eqb (comp i) c) y in
+      let on : comp i ≡ c = eqb-true (comp i) c (and-right (isDirect p comp e i) (eqb (comp i) c) y) in
+      let loose : isLoose p comp e i ≡ true =
+      and-left (isLoose p comp e i) (eqb (rightEnd p comp e i) (e .tick)) direct in
+      let end : endOf p (e .starts) i ≡ e .tick =
+      eqb-true (rightEnd p comp e i) (e .tick)
+      (and-right (isLoose p comp e i) (eqb (rightEnd p comp e i) (e .tick)) direct) in
+      let there : e .placed i ≡ true = and-left (e .placed i) (not (e .frozen i)) loose in
+      let waits : e .frozen i ≡ false =
+      not-true (e .frozen i) (and-right (e .placed i) (not (e .frozen i)) loose) in
       record {
-        least = λ x ox. omega (arith, key-le x ox, key-of x ox, given .few x (ox .has));
-        who = j;
-        is-open = oj;
-        on = omega arith;
-        ends = omega arith;
+        least = λ k o. standing .late k o (soonIn k) (soon k o .room);
+        who = i;
+        is-open = placed-open p e (e .tick) standing i there waits;
+        on = on;
+        ends = omega (arith, stands-at i there waits, end);
       }
 
-  pub choice-is : (k i : ℕ) → model.isChoice q s k i ≡ true
-      → Branches p resource (frozen present s) (startsAt q s) (k / mostResources) (k % mostResources) i
-  unfolding model.isChoice
-  choice-is k i y =
-      let same : Bool = eqb (q .resource i) (k % mostResources) in
-      let soon : Bool = ltb (model.earliest q s i) (k / mostResources) in
-      let two : (model.isOpen q s i && same) ≡ true = and-left (model.isOpen q s i && same) soon y in
-      let o : Open p (frozen present s) i =
-      open-is p resource q present given s shows i (and-left (model.isOpen q s i) same two) in
+  -- A conflict activity by its parts.
+  pub record Conflict (j : ℕ) : Type 0 where
+    pub there : e .placed j ≡ true
+    pub waits : e .frozen j ≡ false
+    pub on : comp j ≡ c
+    pub early : e .starts j < e .tick
+    pub next : isNext p comp e j ≡ true
+
+  pub conflict-parts : (j : ℕ) → inConflict p comp e c j ≡ true → Conflict j
+  conflict-parts j y =
+      let three : (isLoose p comp e j && eqb (comp j) c && ltb (e .starts j) (e .tick)) ≡ true =
+      and-left (isLoose p comp e j && eqb (comp j) c && ltb (e .starts j) (e .tick)) (isNext p comp e j) y in
+      let two : (isLoose p comp e j && eqb (comp j) c) ≡ true =
+      and-left (isLoose p comp e j && eqb (comp j) c) (ltb (e .starts j) (e .tick)) three in
+      let loose : isLoose p comp e j ≡ true = and-left (isLoose p comp e j) (eqb (comp j) c) two in
       record {
-        is-open = o;
-        on =
-            sym (given .resources i (o .has)) ∙ eqb-true (q .resource i) (k % mostResources)
-            (and-right (model.isOpen q s i) same two);
-        before =
-            omega (
-              arith,
-              earliest-is p resource q present given s shows i (o .has),
-              ltb-true (model.earliest q s i) (k / mostResources) (and-right (model.isOpen q s i && same) soon y),
-            );
+        there = and-left (e .placed j) (not (e .frozen j)) loose;
+        waits = not-true (e .frozen j) (and-right (e .placed j) (not (e .frozen j)) loose);
+        on = eqb-true (comp j) c (and-right (isLoose p comp e j) (eqb (comp j) c) two);
+        early =
+            ltb-true (e .starts j) (e .tick)
+            (and-right (isLoose p comp e j && eqb (comp j) c) (ltb (e .starts j) (e .tick)) three);
+        next =
+            and-right (isLoose p comp e j && eqb (comp j) c && ltb (e .starts j) (e .tick)) (isNext p comp e j) y;
       }
 
-  pub choice-of : (k i : ℕ)
-      → Branches p resource (frozen present s) (startsAt q s) (k / mostResources) (k % mostResources) i
-      → model.isChoice q s k i ≡ true
-  unfolding model.isChoice
-  choice-of k i b =
-      let h : Has p i = b .is-open .has in
+  pub parts-conflict : (j : ℕ) → Conflict j → inConflict p comp e c j ≡ true
+  parts-conflict j x =
       both
-      (both
-      (open-of p resource q present given s shows i (b .is-open))
-      (eq-eqb (q .resource i) (k % mostResources) (given .resources i h ∙ b .on)))
-      (lt-ltb (model.earliest q s i) (k / mostResources)
-      (omega (arith, earliest-is p resource q present given s shows i h, b .before)))
+      (both (both (both (x .there) (ap not (x .waits))) (eq-eqb (comp j) c (x .on)))
+      (lt-ltb (e .starts j) (e .tick) (x .early)))
+      (x .next)
+
+  -- The conflict activities are the choices.
+  choice-of : (j : ℕ) → Conflict j → Choice p comp (e .frozen) (e .starts) soonIn (e .tick) c j
+  choice-of j x =
+      let at : e .starts j ≡ soonIn j = stands-at j (x .there) (x .waits) in
+      record {
+        is-open = placed-open p e (e .tick) standing j (x .there) (x .waits);
+        on = x .on;
+        before = omega (arith, at, x .early);
+        after =
+            λ k f free same.
+            let a : Ahead (e .starts k) k (e .starts j) j =
+            ahead-is (e .starts k) k (e .starts j) j
+            (implies-elim (e .frozen k && p .free k && eqb (comp k) (comp j))
+            (isAhead p comp (e .starts k) k (e .starts j) j)
+            (every-at (p .size)
+            (λ m.
+            (e .frozen m && p .free m && eqb (comp m) (comp j))
+            implies isAhead p comp (e .starts m) m (e .starts j) j)
+            (x .next) k (f .below))
+            (both (both (f .there) free) (eq-eqb (comp k) (comp j) (same ∙ sym (x .on))))) in
+            record { low = omega (arith, a .low, at); tie = λ z. a .tie (omega (arith, at, z)) };
+      }
+
+  conflict-of : (j : ℕ) → Choice p comp (e .frozen) (e .starts) soonIn (e .tick) c j → Conflict j
+  conflict-of j b =
+      let there : e .placed j ≡ true =
+      by-bool (e .placed j) (λ y. y)
+      (λ z.
+      absurd
+      (omega (
+        arith,
+        b .before,
+        standing .unplaced j (b .is-open) z (soonIn j) (soon j (b .is-open) .room),
+      ))) in
+      let at : e .starts j ≡ soonIn j = stands-at j there (b .is-open .waits) in
+      record {
+        there = there;
+        waits = b .is-open .waits;
+        on = b .on;
+        early = omega (arith, at, b .before);
+        next =
+            every-of (p .size)
+            (λ k.
+            (e .frozen k && p .free k && eqb (comp k) (comp j))
+            implies isAhead p comp (e .starts k) k (e .starts j) j)
+            (λ k l.
+            implies-intro (e .frozen k && p .free k && eqb (comp k) (comp j))
+            (isAhead p comp (e .starts k) k (e .starts j) j)
+            (λ y.
+            let two : (e .frozen k && p .free k) ≡ true =
+            and-left (e .frozen k && p .free k) (eqb (comp k) (comp j)) y in
+            let f : Frozen p (e .frozen) k =
+            record { below = l; there = and-left (e .frozen k) (p .free k) two } in
+            let a : Ahead (e .starts k) k (soonIn j) j =
+            b .after k f (and-right (e .frozen k) (p .free k) two)
+            (eqb-true (comp k) (comp j) (and-right (e .frozen k && p .free k) (eqb (comp k) (comp j)) y) ∙ b .on) in
+            ahead-of (e .starts k) k (e .starts j) j
+            (record { low = omega (arith, a .low, at); tie = λ z. a .tie (omega (arith, at, z)) })));
+      }
+
+  -- The schedules under the diagram are those under it with each of them selected.
+  pub branched : (mark : ℕ) (below : ℕ → List (List ℕ)) → isContested p comp e c ≡ true
+      → ((j : ℕ) → Conflict j
+      → Rows p mark (Under p comp (select p comp e j .frozen) (select p comp e j .starts)) (below j))
+      → ((j : ℕ) (row : List ℕ) → List·Memᴰ row (below j) → Conflict j)
+      → Rows p mark (Under p comp (e .frozen) (e .starts)) (gather (p .size) below)
+  branched mark below some each other =
+      branch-rows p comp mark (e .frozen) (e .starts) (given .sound) (given .joint) (standing .node) soonIn soon
+      (e .tick) c (contested some) (p .size) below
+      (record {
+        inside = λ j b. b .is-open .has .below;
+        each =
+            λ j b.
+            let x : Conflict j = conflict-of j b in
+            select-rows p comp given e standing j (x .there) (x .waits) (x .early) mark (soonIn j) (below j)
+            (stands-at j (x .there) (x .waits)) (each j x);
+        other = λ j row m. choice-of j (other j row m);
+      })

@@ -1,316 +1,209 @@
--- Step 3, the contested resources one after the other: the schedules of all conflict combinations joined are those of
+-- Step 3, the contested components one after the other: the schedules of all conflict combinations joined are those of
 -- the diagram.
 use Prim.Native.Nat.{ℕ, zero, suc, _+_, _≤_, _<_}
 use native.Mathlib.Decide.{ℕ-discrete}
 use native.Mathlib.Omega.{arith}
-use mathlib.Core.Bool.{Bool, true, false, not, _&&_, _||_, and-false, or-true}
-use mathlib.Core.Path.{_≡_, refl, sym, ap, _∙_, fun-ext, subst}
-use mathlib.Core.Logic.{_≢_, _⊎_, inl, inr, ⊎-elim, by-cases}
+use mathlib.Core.Bool.{Bool, true, false, _&&_, and-false}
 use mathlib.Core.List.{List, [], _∷_, map, foldl, append-nil, List·Memᴰ, List·Memᴰ·not-nil}
+use mathlib.Core.Logic.{_≢_, by-cases}
+use mathlib.Core.Path.{_≡_, refl, sym, ap, ap₂, _∙_, fun-ext, subst}
 use lib.Dec.{eqb}
-use borrow.Author.Tests.{eqb-true, eq-eqb, not-true, not-false}
-use Rattle.plan.specs.Limits.{mostResources}
-use Rattle.schedule.specs.Project.{Project}
+use borrow.Author.Tests.{eqb-true, ne-eqb}
+use Rattle.base.specs.Below.{_implies_}
 use Rattle.base.specs.Lists.{gather}
-use Rattle.base.proofs.Bools.{by-bool, true-not-false, both, and-left, and-right, not-both, elim-true, elim-false}
+use Rattle.base.proofs.Bools.{by-bool, true-not-false, and-right, elim-true, elim-false}
+use Rattle.base.proofs.Below.{every-same, implies-intro}
+use Rattle.schedule.specs.Project.{Project}
 use Rattle.schedule.proofs.Load.{Has}
-use Rattle.schedule.proofs.OneUnit.{Bench}
-use Rattle.sets.specs.Sets.{most}
-use Rattle.timetable.specs.Mark.{mark}
-use Rattle.branching.proofs.Partial.{Open}
-use Rattle.branching.proofs.Tick.{Branches, adding, placing}
-use Rattle.branching.proofs.Leaves.{Leaves, branch}
-use Rattle.scan.specs.Scan.{Diagram, onLine, isDirect, isAlone, isConflictFree, isContested, inConflict}
-use Rattle.scan.specs.Scan.{combinationsFrom, combinations, freeze, select, resolve}
-use Rattle.scan.specs.Model.{Problem}
+use Rattle.branching.proofs.Room.{adding, adding-new, adding-old, adding-other}
+use Rattle.branching.proofs.Under.{Under}
+use Rattle.branching.proofs.Rows.{Rows}
+use Rattle.scan.specs.Scan.{Diagram}
 use Rattle.scan.proofs.Joined.{joined, joined-gather, joined-if}
-use Rattle.scan_exact.proofs.Shows.{Models, has-present}
-use Rattle.scan_exact.proofs.Standing.{Standing, endIn, placed-open}
-use Rattle.scan_exact.proofs.Line.{Crosses, Stops, some-is, some-not, line-is, line-of, direct-is, direct-of}
-use Rattle.scan_exact.proofs.Line.{frozen-alone, tick-is, branch-is, branch-of}
-use Rattle.scan_exact.proofs.Selected.{select-more, select-new, select-other, select-off}
-use Rattle.scan_exact.proofs.Selected.{select-leaves, select-standing, select-settles}
-use Rattle.scan_exact.proofs.Attached.{Settled}
-use Rattle.scan_exact.proofs.Fewer.{toGo, fewer, fewer-frozen}
-use Rattle.scan_exact.proofs.ConflictFree.{freeze-standing, freeze-leaves}
+use Rattle.scan.specs.Scan.{isDirect, isContested, isAhead, isNext, inConflict, combinationsFrom, combinations}
+use Rattle.scan.specs.Scan.{freeze, shift, select, resolve}
+use Rattle.scan_exact.proofs.Standing.{Scannable, Standing}
+use Rattle.scan_exact.proofs.Selected.{select-kept, select-off, select-standing}
+use Rattle.scan_exact.proofs.Attached.{some-is, some-of}
+use Rattle.scan_exact.proofs.Choices.{Conflict, conflict-parts, parts-conflict, branched}
 
--- A move uses something up: a diagram has used it up, or has a direct activity, which leaves T.
-abbrev pub Falls : Problem → ℕ → ℕ → Diagram → Type 0
-Falls q present fuel d = (toGo present d < fuel) ⊎ ((toGo present d ≤ fuel) × (i : ℕ) × (isDirect q d i ≡ true))
+module _ (p : Project) (comp : ℕ → ℕ) (given : Scannable p comp) (mark : ℕ) (d : Diagram)
+    (standing : Standing p d (d .tick)) where
+  -- A diagram that comes of d when the conflicts of the components below r are resolved.
+  pub record Resolved (e : Diagram) (r : ℕ) : Type 0 where
+    pub stands : Standing p e (e .tick)
+    pub tick : e .tick ≡ d .tick
+    pub placed : (i : ℕ) → e .placed i ≡ d .placed i
+    pub term : (i : ℕ) → e .term i ≡ d .term i
+    pub more : (i : ℕ) → d .frozen i ≡ true → (e .frozen i ≡ true) × (e .starts i ≡ d .starts i)
+    pub same : (i : ℕ) → r ≤ comp i → (e .frozen i ≡ d .frozen i) × (e .starts i ≡ d .starts i)
+    -- one is frozen for each that was contested
+    pub fewer : (c : ℕ) → c < r → isContested p comp d c ≡ true
+        → (j : ℕ) × Has p j × (d .frozen j ≡ false) × (e .frozen j ≡ true)
 
-module _ (p : Project) (resource : ℕ → ℕ) (bench : Bench p resource) (q : Problem) (present : ℕ)
-    (given : Models p resource q present) (fuel : ℕ) (d : Diagram)
-    (standing : Standing p resource d (d .tick) (d .tick)) (rows : Diagram → List (List ℕ))
-    (each : (e : Diagram) → Standing p resource e (e .tick) (e .tick) → Settled p e → Falls q present fuel e
-    → Leaves p mark (e .frozen) (e .starts) (rows e)) where
-  -- A diagram that comes of d when the conflicts of the resources below r are resolved.
-  record Resolved (e : Diagram) (r : ℕ) : Type 0 where
-    stands : Standing p resource e (e .tick) (e .tick)
-    tick : e .tick ≡ d .tick
-    placed : (i : ℕ) → e .placed i ≡ d .placed i
-    frozen : (i : ℕ) → r ≤ resource i → e .frozen i ≡ freeze q d .frozen i
-    starts : (i : ℕ) → r ≤ resource i → e .starts i ≡ d .starts i
-    settled : (i : ℕ) → e .placed i ≡ true → e .frozen i ≡ false → resource i < r → e .tick < endIn p e i
-    falls : Falls q present fuel e
+  abbrev after-all : Diagram → ℕ → ℕ → Bool
+  after-all x j k =
+      (x .frozen k && p .free k && eqb (comp k) (comp j)) implies isAhead p comp (x .starts k) k (x .starts j) j
 
-  resource-is : (i r : ℕ) → d .placed i ≡ true → eqb (q .resource i) r ≡ true → resource i ≡ r
-  resource-is i r y on = sym (given .resources i (standing .inside i y)) ∙ eqb-true (q .resource i) r on
+  apart : (x : Diagram) (j k : ℕ) → comp k ≢ comp j → after-all x j k ≡ true
+  apart x j k ne =
+      implies-intro (x .frozen k && p .free k && eqb (comp k) (comp j)) (isAhead p comp (x .starts k) k (x .starts j) j)
+      (λ y.
+      absurd (ne (eqb-true (comp k) (comp j) (and-right (x .frozen k && p .free k) (eqb (comp k) (comp j)) y))))
 
-  resource-of : (i r : ℕ) → d .placed i ≡ true → resource i ≡ r → eqb (q .resource i) r ≡ true
-  resource-of i r y on = eq-eqb (q .resource i) r (given .resources i (standing .inside i y) ∙ on)
-
-  abbrev contests : ℕ → ℕ → Bool
-  contests r = λ i. isDirect q d i && eqb (q .resource i) r && not (isAlone q d i)
+  elsewhere : (x : Diagram) (r j : ℕ) → comp j ≢ r → inConflict p comp x r j ≡ false
+  elsewhere x r j off = rw (ne-eqb (comp j) r off, and-false)
 
   module _ (e : Diagram) (r : ℕ) (now : Resolved e r) where
-    crosses-now : (k : ℕ) → r ≤ resource k → Crosses p d k → Crosses p e k
-    crosses-now k on c =
-        record {
-          placed = now .placed k ∙ c .placed;
-          before = omega (arith, now .starts k on, now .tick, c .before);
-          until = omega (arith, now .starts k on, now .tick, c .until);
-        }
+    -- The component r is as it was.
+    conflict-same : (j : ℕ) → inConflict p comp e r j ≡ inConflict p comp d r j
+    conflict-same j =
+        by-cases (ℕ-discrete (comp j) r)
+        (λ on.
+        let (frozen, starts) = now .same j (omega (arith, on)) in
+        let next : isNext p comp e j ≡ isNext p comp d j =
+        every-same (p .size) (after-all e j) (after-all d j)
+        (λ k l.
+        by-cases (ℕ-discrete (comp k) (comp j))
+        (λ same.
+        let (frozen-k, starts-k) = now .same k (omega (arith, on, same)) in
+        ap₂
+        (λ (f : Bool) (a : ℕ). (f && p .free k && eqb (comp k) (comp j)) implies isAhead p comp a k (e .starts j) j)
+        frozen-k starts-k
+        ∙ ap
+        (λ (b : ℕ).
+        (d .frozen k && p .free k && eqb (comp k) (comp j)) implies isAhead p comp (d .starts k) k b j)
+        starts)
+        (λ ne. apart e j k ne ∙ sym (apart d j k ne))) in
+        rw (next, now .placed j, frozen, starts, now .tick))
+        (λ off. elsewhere e r j off ∙ sym (elsewhere d r j off))
 
-    crosses-then : (k : ℕ) → r ≤ resource k → Crosses p e k → Crosses p d k
-    crosses-then k on c =
-        record {
-          placed = sym (now .placed k) ∙ c .placed;
-          before = omega (arith, now .starts k on, now .tick, c .before);
-          until = omega (arith, now .starts k on, now .tick, c .until);
-        }
+    contested-same : isContested p comp d r ≡ true → isContested p comp e r ≡ true
+    contested-same some =
+        let (i, l, y) = some-is p comp (λ i. isDirect p comp d i && eqb (comp i) r) some in
+        let on : comp i ≡ r = eqb-true (comp i) r (and-right (isDirect p comp d i) (eqb (comp i) r) y) in
+        let (frozen, starts) = now .same i (omega (arith, on)) in
+        some-of p comp (λ i. isDirect p comp e i && eqb (comp i) r) i l
+        (rw (now .placed i, frozen, starts, now .tick) y)
 
-    -- Not contested: nothing ends there that is not frozen.
-    uncontested : isContested q d r ≡ false → (i : ℕ) → e .placed i ≡ true → e .frozen i ≡ false → resource i ≡ r
-        → e .tick < endIn p e i
-    unfolding freeze
-    uncontested none i y z on =
-        let o : Open p (e .frozen) i = placed-open p resource e (e .tick) (e .tick) (now .stands) i y z in
-        by-cases
-        (ℕ-discrete (endIn p e i) (e .tick))
-        (λ ends.
-        let there : d .placed i ≡ true = sym (now .placed i) ∙ y in
-        let direct : isDirect q d i ≡ true =
-        direct-of p resource bench q present given d standing i there
-        (omega (arith, now .starts i (omega arith), now .tick)) in
-        let h : Has p i = standing .inside i there in
-        let lonely : isAlone q d i ≡ true =
-        not-false (isAlone q d i)
-        (not-both (isDirect q d i && eqb (q .resource i) r) (not (isAlone q d i))
-        (some-not (contests r) none i (omega (arith, h .below, given .small)))
-        (both direct (resource-of i r there on))) in
-        true-not-false
-        (ap (λ (x : Bool). d .frozen i || x) (both direct lonely) ∙ or-true (d .frozen i))
-        (sym (now .frozen i (omega arith)) ∙ z))
-        (λ ne.
-        omega (arith, now .stands .at i y z, now .stands .late i o))
-
-    -- Contested: one that is not frozen ends there.
-    contested : isContested q d r ≡ true → Stops p resource e r
-    unfolding freeze
-    contested some =
-        let (i, l, y) = some-is (contests r) some in
-        let two : (isDirect q d i && eqb (q .resource i) r) ≡ true =
-        and-left (isDirect q d i && eqb (q .resource i) r) (not (isAlone q d i)) y in
-        let crowded : isAlone q d i ≡ false =
-        not-true (isAlone q d i)
-        (and-right (isDirect q d i && eqb (q .resource i) r) (not (isAlone q d i)) y) in
-        let (c, ends) =
-        direct-is p resource bench q present given d standing i
-        (and-left (isDirect q d i) (eqb (q .resource i) r) two) in
-        let on : resource i ≡ r =
-        resource-is i r (c .placed) (and-right (isDirect q d i) (eqb (q .resource i) r) two) in
-        let waits : d .frozen i ≡ false =
-        by-bool
-        (d .frozen i)
-        (λ f. true-not-false (frozen-alone p resource bench q present given d standing i f ends) crowded)
-        (λ z. z) in
-        record {
-          who = i;
-          placed = now .placed i ∙ c .placed;
-          waits =
-              now .frozen i (omega arith)
-              ∙ ap (λ (x : Bool). x || isConflictFree q d i) waits
-              ∙ ap (λ (x : Bool). isDirect q d i && x) crowded
-              ∙ and-false (isDirect q d i);
-          on = on;
-          ends = omega (arith, now .starts i (omega arith), now .tick);
-        }
-
-    skip : isContested q d r ≡ false → Resolved e (suc r)
+    skip : isContested p comp d r ≡ false → Resolved e (suc r)
     skip none =
         record {
           stands = now .stands;
           tick = now .tick;
           placed = now .placed;
-          frozen = λ i l. now .frozen i (omega arith);
-          starts = λ i l. now .starts i (omega arith);
-          settled =
-              λ i y z l.
-              by-cases
-              (ℕ-discrete (resource i) r)
-              (λ on. uncontested none i y z on)
-              (λ ne. now .settled i y z (omega arith));
-          falls = now .falls;
+          term = now .term;
+          more = now .more;
+          same = λ i l. now .same i (omega (arith, l));
+          fewer =
+              λ c l y.
+              by-cases (ℕ-discrete c r) (λ z. true-not-false y (ap (isContested p comp d) z ∙ none))
+              (λ ne. now .fewer c (omega (arith, l, ne)) y);
         }
 
-    module _ (stops : Stops p resource e r) where
-      conflict-is : (j : ℕ) → inConflict q d r j ≡ true
-          → Branches p resource (e .frozen) (e .starts) (e .tick) r j
-      conflict-is j y =
-          let c : Crosses p d j =
-          line-is p resource bench q present given d standing j
-          (and-left (onLine q d j) (eqb (q .resource j) r) y) in
-          let on : resource j ≡ r =
-          resource-is j r (c .placed) (and-right (onLine q d j) (eqb (q .resource j) r) y) in
-          branch-is p resource bench q present given e (now .stands) r stops j
-          (crosses-now j (omega arith) c) on
+    selected : (j : ℕ) → Conflict p comp given e (now .stands) r j → Resolved (select p comp e j) (suc r)
+    unfolding freeze shift
+    selected j x =
+        let kept = select-kept p comp given e (now .stands) j (x .there) (x .waits) (x .early) in
+        let (frozen-j, _) = now .same j (omega (arith, x .on)) in
+        record {
+          stands = select-standing p comp given e (now .stands) j (x .there) (x .waits) (x .early);
+          tick = now .tick;
+          placed = now .placed;
+          term = now .term;
+          more =
+              λ i f.
+              let (frozen, starts) = now .more i f in
+              let y : adding (e .frozen) j i ≡ true = adding-old (e .frozen) j i frozen in
+              (y, kept i y ∙ starts);
+          same =
+              λ i l.
+              let (frozen, starts) = now .same i (omega (arith, l)) in
+              let off : comp i ≢ comp j = λ z. omega (arith, l, z, x .on) in (
+                adding-other (e .frozen) j i (λ z. off (ap comp z)) ∙ frozen,
+                select-off p comp given e (now .stands) j (x .there) (x .waits) (x .early) i off ∙ starts,
+              );
+          fewer =
+              λ c l y. (
+                j,
+                now .stands .inside j (x .there),
+                sym frozen-j ∙ x .waits,
+                adding-new (e .frozen) j,
+              );
+        }
 
-      conflict-of : (j : ℕ) → Branches p resource (e .frozen) (e .starts) (e .tick) r j
-          → inConflict q d r j ≡ true
-      conflict-of j b =
-          let c : Crosses p d j =
-          crosses-then j (omega (arith, b .on))
-          (branch-of p resource bench q present given e (now .stands) r stops j b) in
-          both (line-of p resource bench q present given d standing j c) (resource-of j r (c .placed) (b .on))
+  module _ (rows : Diagram → List (List ℕ))
+      (each : (e : Diagram) → Resolved e (p .size)
+      → Rows p mark (Under p comp (e .frozen) (e .starts)) (rows e)) where
+    -- The schedules from component r on, where n are left.
+    abbrev schedulesFrom : Diagram → ℕ → ℕ → List (List ℕ)
+    schedulesFrom e r n = joined (λ c. rows (foldl (select p comp) e c)) (combinationsFrom p comp d r n)
 
-      selected : (j : ℕ) → Branches p resource (e .frozen) (e .starts) (e .tick) r j
-          → Resolved (select q e j) (suc r)
-      unfolding select
-      selected j b =
-          let h : Has p j = b .is-open .has in
-          let off : (i : ℕ) → resource i ≢ r → i ≢ j = λ i ne same. ne (ap resource same ∙ b .on) in
-          let kept : (i : ℕ) → resource i ≢ r → select q e j .frozen i ≡ e .frozen i =
-          λ i ne.
-          select-other p resource bench q present given e (now .stands) r stops j b i (off i ne) in
-          let same : (i : ℕ) → resource i ≢ r → select q e j .starts i ≡ e .starts i =
-          select-off p resource bench q present given e (now .stands) r stops j b in
-          let less : toGo present (select q e j) < toGo present e =
-          fewer-frozen present e (select q e j) (λ i y. y)
-          (select-more p resource bench q present given e (now .stands) r stops j b)
-          j
-          (omega (arith, h .below, given .small))
-          (has-present p resource q present given j h)
-          (b .is-open .waits)
-          (select-new p resource bench q present given e (now .stands) r stops j b)
-          in
-          record {
-            stands = select-standing p resource bench q present given e (now .stands) r stops j b;
-            tick = now .tick;
-            placed = now .placed;
-            frozen =
-                λ i l. kept i (λ on. omega arith) ∙ now .frozen i (omega arith);
-            starts =
-                λ i l. same i (λ on. omega arith) ∙ now .starts i (omega arith);
-            settled =
-                λ i y z l.
-                by-cases
-                (ℕ-discrete (resource i) r)
-                (λ on. select-settles p resource bench q present given e (now .stands) r stops j b i y z on)
-                (λ ne.
-                let before : e .tick < endIn p e i =
-                now .settled i y (sym (kept i ne) ∙ z) (omega arith) in
-                omega (arith, same i ne));
-            falls =
-                inl (⊎-elim (λ a. omega arith) (λ a. let (le, k, direct) = a in omega arith) (now .falls));
-          }
+    abbrev choice : Diagram → ℕ → ℕ → ℕ → List (List ℕ)
+    choice e r n i =
+        elim (inConflict p comp d r i) [ true ↦ schedulesFrom (select p comp e i) (suc r) n | false ↦ [] ]
 
-  -- The schedules from resource r on, where n are left.
-  abbrev schedulesFrom : Diagram → ℕ → ℕ → List (List ℕ)
-  schedulesFrom e r n = joined (λ c. rows (foldl (select q) e c)) (combinationsFrom q d r n)
+    at-contested : (e : Diagram) (r n : ℕ) → isContested p comp d r ≡ true
+        → schedulesFrom e r (suc n) ≡ gather (p .size) (λ i. choice e r n i)
+    unfolding combinationsFrom
+    at-contested e r n y =
+        let rest : List (List ℕ) = combinationsFrom p comp d (suc r) n in
+        let below : List ℕ → List (List ℕ) = λ c. rows (foldl (select p comp) e c) in
+        let part : ℕ → List (List ℕ) =
+        λ i. elim (inConflict p comp d r i) [ true ↦ map (i ∷_) rest | false ↦ [] ] in
+        ap (joined below) (elim-true (isContested p comp d r) (gather (p .size) part) rest y)
+        ∙ joined-gather below (p .size) part
+        ∙ ap (gather (p .size)) (fun-ext (λ i. joined-if below (inConflict p comp d r i) i rest))
 
-  abbrev choice : Diagram → ℕ → ℕ → ℕ → List (List ℕ)
-  choice e r n i =
-      elim (inConflict q d r i) [ true ↦ schedulesFrom (select q e i) (suc r) n | false ↦ [] ]
+    at-other : (e : Diagram) (r n : ℕ) → isContested p comp d r ≡ false
+        → schedulesFrom e r (suc n) ≡ schedulesFrom e (suc r) n
+    unfolding combinationsFrom
+    at-other e r n z =
+        let rest : List (List ℕ) = combinationsFrom p comp d (suc r) n in
+        let part : ℕ → List (List ℕ) =
+        λ i. elim (inConflict p comp d r i) [ true ↦ map (i ∷_) rest | false ↦ [] ] in
+        ap (joined (λ c. rows (foldl (select p comp) e c)))
+        (elim-false (isContested p comp d r) (gather (p .size) part) rest z)
 
-  at-contested : (e : Diagram) (r n : ℕ) → isContested q d r ≡ true
-      → schedulesFrom e r (suc n) ≡ gather most (λ i. choice e r n i)
-  unfolding combinationsFrom
-  at-contested e r n y =
-      let rest : List (List ℕ) = combinationsFrom q d (suc r) n in
-      let below : List ℕ → List (List ℕ) = λ c. rows (foldl (select q) e c) in
-      let part : ℕ → List (List ℕ) = λ i. elim (inConflict q d r i) [ true ↦ map (i ∷_) rest | false ↦ [] ] in
-      ap (joined below) (elim-true (isContested q d r) (gather most part) rest y)
-      ∙ joined-gather below most part
-      ∙ ap (gather most) (fun-ext (λ i. joined-if below (inConflict q d r i) i rest))
+    walk : (n r : ℕ) (e : Diagram) → r + n ≡ p .size → Resolved e r
+        → Rows p mark (Under p comp (e .frozen) (e .starts)) (schedulesFrom e r n)
+    unfolding combinationsFrom
+    walk zero r e all now = rw (append-nil (rows e)) (each e (subst (Resolved e) (omega (arith, all)) now))
+    walk (suc n) r e all now =
+        by-bool (isContested p comp d r)
+        (λ y.
+        subst (Rows p mark (Under p comp (e .frozen) (e .starts))) (sym (at-contested e r n y))
+        (branched p comp given e (now .stands) r mark (λ i. choice e r n i) (contested-same e r now y)
+        (λ j x.
+        subst (Rows p mark (Under p comp (select p comp e j .frozen) (select p comp e j .starts)))
+        (sym
+        (elim-true (inConflict p comp d r j) (schedulesFrom (select p comp e j) (suc r) n) []
+        (sym (conflict-same e r now j) ∙ parts-conflict p comp given e (now .stands) r j x)))
+        (walk n (suc r) (select p comp e j) (omega (arith, all)) (selected e r now j x)))
+        (λ j row m.
+        conflict-parts p comp given e (now .stands) r j
+        (by-bool (inConflict p comp d r j) (λ c. conflict-same e r now j ∙ c)
+        (λ z.
+        absurd
+        (List·Memᴰ·not-nil
+        (subst (List·Memᴰ row)
+        (elim-false (inConflict p comp d r j) (schedulesFrom (select p comp e j) (suc r) n) [] z) m)))))))
+        (λ z.
+        subst (Rows p mark (Under p comp (e .frozen) (e .starts))) (sym (at-other e r n z))
+        (walk n (suc r) e (omega (arith, all)) (skip e r now z)))
 
-  at-other : (e : Diagram) (r n : ℕ) → isContested q d r ≡ false → schedulesFrom e r (suc n) ≡ schedulesFrom e (suc r) n
-  unfolding combinationsFrom
-  at-other e r n z =
-      let rest : List (List ℕ) = combinationsFrom q d (suc r) n in
-      let part : ℕ → List (List ℕ) = λ i. elim (inConflict q d r i) [ true ↦ map (i ∷_) rest | false ↦ [] ] in
-      ap (joined (λ c. rows (foldl (select q) e c))) (elim-false (isContested q d r) (gather most part) rest z)
-
-  walk : (n r : ℕ) (e : Diagram) → r + n ≡ mostResources → Resolved e r
-      → Leaves p mark (e .frozen) (e .starts) (schedulesFrom e r n)
-  unfolding combinationsFrom
-  walk zero r e all now =
-      rw (append-nil (rows e))
-      (each e (now .stands)
-      (λ i y z. now .settled i y z (omega (arith, given .few i (now .stands .inside i y))))
-      (now .falls))
-  walk (suc n) r e all now =
-      by-bool
-      (isContested q d r)
-      (λ y.
-      let stops : Stops p resource e r = contested e r now y in
-      subst
-      (λ (x : List (List ℕ)). Leaves p mark (e .frozen) (e .starts) x)
-      (sym (at-contested e r n y))
-      (branch p resource mark (e .frozen) (e .starts) bench (now .stands .state) (e .tick) r
-      (tick-is p resource bench q present given e (now .stands) r stops)
-      most
-      (λ i. choice e r n i)
-      (record {
-        inside = λ j b. omega (arith, b .is-open .has .below, given .small);
-        each =
-            λ j b.
-            subst
-            (λ (x : List (List ℕ)).
-            Leaves p mark (adding (e .frozen) j) (placing p resource (e .frozen) (e .starts) j) x)
-            (sym (elim-true (inConflict q d r j) (schedulesFrom (select q e j) (suc r) n) []
-            (conflict-of e r now stops j b)))
-            (select-leaves p resource bench q present given e (now .stands) r stops j b mark
-            (schedulesFrom (select q e j) (suc r) n)
-            (walk n (suc r) (select q e j) (omega arith) (selected e r now stops j b)));
-        other =
-            λ j row m.
-            by-bool
-            (inConflict q d r j)
-            (λ c. conflict-is e r now stops j c)
-            (λ z.
-            absurd (List·Memᴰ·not-nil (
-            subst (λ (x : List (List ℕ)). List·Memᴰ row x)
-            (elim-false (inConflict q d r j) (schedulesFrom (select q e j) (suc r) n) [] z) m
-            )));
-      })))
-      (λ z.
-      subst
-      (λ (x : List (List ℕ)). Leaves p mark (e .frozen) (e .starts) x)
-      (sym (at-other e r n z))
-      (walk n (suc r) e (omega arith) (skip e r now z)))
-
-  -- The schedules of all combinations.
-  pub combined : toGo present d ≤ fuel → (i : ℕ) → isDirect q d i ≡ true
-      → Leaves p mark (d .frozen) (d .starts) (joined (λ c. rows (resolve q c d)) (combinations q d))
-  unfolding resolve freeze
-  combined low i direct =
-      freeze-leaves p resource bench q present given d standing mark
-      (joined (λ c. rows (resolve q c d)) (combinations q d))
-      (walk mostResources 0 (freeze q d) (omega arith)
-      (record {
-        stands = freeze-standing p resource bench q present given d standing;
-        tick = refl;
-        placed = λ k. refl;
-        frozen = λ k l. refl;
-        starts = λ k l. refl;
-        settled = λ k y z l. absurd (omega arith);
-        falls =
-            inr (
-              omega (
-                arith,
-                fewer present d (freeze q d) (λ k y. y) (λ k y. ap (λ (x : Bool). x || isConflictFree q d k) y),
-              ),
-              i,
-              direct,
-            );
-      }))
+    -- The schedules of all combinations.
+    pub combined : Rows p mark (Under p comp (d .frozen) (d .starts))
+        (joined (λ c. rows (resolve p comp c d)) (combinations p comp d))
+    unfolding resolve
+    combined =
+        walk (p .size) 0 d (omega arith)
+        (record {
+          stands = standing;
+          tick = refl;
+          placed = λ i. refl;
+          term = λ i. refl;
+          more = λ i f. (f, refl);
+          same = λ i l. (refl, refl);
+          fewer = λ c l y. absurd (omega (arith, l));
+        })

@@ -1,333 +1,249 @@
--- To select a scan-line activity of a resource on which one stops is to take a branch: it is frozen at its earliest
--- start, and the others of the resource now start when it ends.
+-- To select an activity that is placed and not frozen and starts before the scan-line is to take a branch: it is frozen
+-- where it stands, and what else is placed in its component starts at its next fit.
 use Prim.Native.Nat.{ℕ, _+_, _≤_, _<_}
 use native.Mathlib.Decide.{ℕ-discrete}
 use native.Mathlib.Omega.{arith}
-use mathlib.Core.Bool.{Bool, true, false, not, _&&_, _||_, or-comm, or-true}
-use mathlib.Core.Path.{_≡_, refl, sym, ap, _∙_}
-use mathlib.Core.Logic.{_≢_, by-cases}
+use mathlib.Core.Bool.{Bool, true, false, not, _&&_, _||_, and-false}
 use mathlib.Core.List.{List}
+use mathlib.Core.Logic.{_≢_, by-cases}
+use mathlib.Core.Path.{_≡_, refl, sym, ap, _∙_}
 use lib.Dec.{eqb}
 use borrow.Author.Tests.{eq-eqb, ne-eqb}
-use Rattle.schedule.specs.Project.{Project}
 use Rattle.base.proofs.Bools.{by-bool, true-not-false, both, cond-true, cond-false}
-use Rattle.schedule.proofs.Load.{Has, moved-same, moved-other}
-use Rattle.schedule.proofs.OneUnit.{Bench}
-use Rattle.branching.proofs.Partial.{Frozen, Open, after-ready, after-avail, soonest-le}
-use Rattle.branching.proofs.Tick.{Branches, adding, placing}
-use Rattle.branching.proofs.Child.{child}
-use Rattle.branching.proofs.Leaves.{Leaves}
-use Rattle.branching.proofs.Alike.{Alike, alike-sym, leaves-alike, state-alike}
-use Rattle.scan.specs.Scan.{Diagram, rightEnd, sameResource, onLine, select}
-use Rattle.scan.specs.Model.{Problem}
-use Rattle.scan_exact.proofs.Shows.{Models, workOf}
-use Rattle.scan_exact.proofs.Standing.{Standing, endIn, soonestIn, soonest-mono, work-more, is-frozen}
-use Rattle.scan_exact.proofs.Standing.{soonest-early}
-use Rattle.scan_exact.proofs.Line.{Crosses, Stops, end-is, line-of, same-of, shifted-is, tick-is}
-use Rattle.scan_exact.proofs.Line.{frozen-over, waiting-crosses, crosses-waits, branch-of}
+use Rattle.schedule.specs.Project.{Project}
+use Rattle.schedule.specs.Schedule.{Starts, endOf, moved}
+use Rattle.schedule.proofs.Load.{Has, among, load-mono, moved-same, moved-other}
+use Rattle.schedule.proofs.Agree.{Agree, agree-sym}
+use Rattle.branching.proofs.Room.{Frozen, Open, Room, Soonest, adding, adding-new, adding-old, not-added, by-added}
+use Rattle.branching.proofs.Node.{Node, child}
+use Rattle.branching.proofs.Under.{Under}
+use Rattle.branching.proofs.Rows.{Rows, rows-same}
+use Rattle.scan.specs.Scan.{Diagram}
+use Rattle.scan.specs.Scan.{isLoose, nextFit, freeze, shift, select}
+use Rattle.scan_exact.proofs.Rooms.{room-agree, next-soonest}
+use Rattle.scan_exact.proofs.Standing.{Scannable, Standing, is-frozen, placed-open, ends-late, node-agree}
+use Rattle.scan_exact.proofs.Standing.{under-agree}
 
-module _ (p : Project) (resource : ℕ → ℕ) (bench : Bench p resource) (q : Problem) (present : ℕ)
-    (given : Models p resource q present) (d : Diagram) (standing : Standing p resource d (d .tick) (d .tick))
-    (r : ℕ) (stops : Stops p resource d r) (j : ℕ)
-    (b : Branches p resource (d .frozen) (d .starts) (d .tick) r j) where
-  abbrev next : Diagram
-  next = select q d j
+pub soonest-agree : (p : Project) (F : ℕ → Bool) (S R : Starts) (i e : ℕ) → Agree (among p F) S R
+    → Soonest p F S i e
+    → Soonest p F R i e
+soonest-agree p F S R i e a soon =
+    record {
+      room = room-agree p F S R i e a (soon .room);
+      least = λ x room. soon .least x (room-agree p F R S i x (agree-sym (among p F) S R a) room);
+    }
 
-  crosses : Crosses p d j
-  crosses = branch-of p resource bench q present given d standing r stops j b
+module _ (p : Project) (comp : ℕ → ℕ) (given : Scannable p comp) (d : Diagram)
+    (standing : Standing p d (d .tick)) (j : ℕ) (there : d .placed j ≡ true) (waits : d .frozen j ≡ false)
+    (early : d .starts j < d .tick) where
+  abbrev F : ℕ → Bool
+  F = d .frozen
 
-  has-j : Has p j
-  has-j = b .is-open .has
+  abbrev S : Starts
+  S = d .starts
 
-  start-j : d .starts j ≡ soonestIn p resource d j
-  start-j = standing .at j (crosses .placed) (b .is-open .waits)
+  abbrev G : ℕ → Bool
+  G = adding (d .frozen) j
 
-  frozen-before : (k : ℕ) → d .frozen k ≡ true → Frozen p (d .frozen) k
-  frozen-before = is-frozen p resource d (d .tick) (d .tick) standing
+  abbrev R : Starts
+  R = select p comp d j .starts
 
-  has-frozen : (k : ℕ) → d .frozen k ≡ true → Has p k
-  has-frozen k y = standing .inside k (standing .within k y)
+  open-j : Open p F j
+  open-j = placed-open p d (d .tick) standing j there waits
 
   -- What is frozen.
+  pub select-frozen : (i : ℕ) → select p comp d j .frozen i ≡ adding (d .frozen) j i
+  unfolding freeze shift
+  select-frozen i = refl
 
-  pub select-more : (i : ℕ) → d .frozen i ≡ true → select q d j .frozen i ≡ true
-  unfolding select
-  select-more i y = ap (λ (x : Bool). x || eqb i j) y
+  loose-not : (k : ℕ) → G k ≡ true → isLoose p comp (freeze p comp d j) k ≡ false
+  unfolding freeze
+  loose-not k y = ap (λ (x : Bool). d .placed k && not x) y ∙ and-false (d .placed k)
 
-  pub select-new : select q d j .frozen j ≡ true
-  unfolding select
-  select-new = ap (λ (x : Bool). d .frozen j || x) (eq-eqb j j refl) ∙ or-true (d .frozen j)
-
-  pub select-other : (i : ℕ) → i ≢ j → select q d j .frozen i ≡ d .frozen i
-  unfolding select
-  select-other i ne = or-comm (d .frozen i) (eqb i j) ∙ ap (λ (x : Bool). x || d .frozen i) (ne-eqb i j ne)
-
-  split : {C : Type 0} (i : ℕ) → next .frozen i ≡ true → (i ≡ j → C) → (i ≢ j → d .frozen i ≡ true → C) → C
-  split i y new old = by-cases (ℕ-discrete i j) new (λ ne. old ne (sym (select-other i ne) ∙ y))
-
-  not-new : (i : ℕ) → next .frozen i ≡ false → i ≢ j
-  not-new i z e = true-not-false select-new (sym (ap (next .frozen) e) ∙ z)
-
-  waits-before : (i : ℕ) → next .frozen i ≡ false → d .frozen i ≡ false
-  waits-before i z = sym (select-other i (not-new i z)) ∙ z
-
-  frozen-after : (k : ℕ) → d .frozen k ≡ true → Frozen p (next .frozen) k
-  frozen-after k y = record { below = frozen-before k y .below; there = select-more k y }
-
-  new-frozen : Frozen p (next .frozen) j
-  new-frozen = record { below = has-j .below; there = select-new }
-
-  -- Where everything starts.
-
-  unshifted : (k : ℕ) → (Crosses p d k → resource k ≡ r → k ≢ j → ⊥) → next .starts k ≡ d .starts k
-  unfolding select
-  unshifted k none =
-      by-bool
-      (onLine q d k && sameResource q k j && not (eqb k j))
-      (λ y.
-      let (c, on, ne) = shifted-is p resource bench q present given d standing k j has-j y in
-      absurd (none c (on ∙ b .on) ne))
-      (λ z. cond-false (rightEnd q d j) (d .starts k) z)
-
-  select-start : select q d j .starts j ≡ d .starts j
-  select-start = unshifted j (λ c on ne. ne refl)
-
-  select-kept : (k : ℕ) → d .frozen k ≡ true → select q d j .starts k ≡ d .starts k
+  pub select-kept : (k : ℕ) → adding (d .frozen) j k ≡ true → select p comp d j .starts k ≡ d .starts k
+  unfolding freeze shift
   select-kept k y =
-      unshifted k
-      (λ c on ne. true-not-false y (crosses-waits p resource bench q present given d standing r stops k c on))
+      cond-false (nextFit p comp (freeze p comp d j) k (S k)) (S k)
+      (ap (λ (x : Bool). x && eqb (comp k) (comp j)) (loose-not k y))
 
-  pub select-off : (k : ℕ) → resource k ≢ r → select q d j .starts k ≡ d .starts k
-  select-off k off = unshifted k (λ c on ne. off on)
+  pub select-off : (k : ℕ) → comp k ≢ comp j → select p comp d j .starts k ≡ d .starts k
+  unfolding freeze shift
+  select-off k off =
+      cond-false (nextFit p comp (freeze p comp d j) k (S k)) (S k)
+      (ap (λ (x : Bool). isLoose p comp (freeze p comp d j) k && x) (ne-eqb (comp k) (comp j) off)
+      ∙ and-false (isLoose p comp (freeze p comp d j) k))
 
-  shifted : (k : ℕ) → d .placed k ≡ true → d .frozen k ≡ false → resource k ≡ r → k ≢ j
-      → next .starts k ≡ endIn p d j
-  unfolding select
-  shifted k y z on ne =
-      let c : Crosses p d k = waiting-crosses p resource bench q present given d standing r stops k y z on in
-      cond-true (rightEnd q d j) (d .starts k)
-      (both
-      (both
-      (line-of p resource bench q present given d standing k c)
-      (same-of p resource bench q present given d standing k j (standing .inside k y) has-j (on ∙ sym (b .on))))
-      (ap not (ne-eqb k j ne)))
-      ∙ end-is p resource bench q present given d standing j (crosses .placed)
+  shifted : (k : ℕ) → d .placed k ≡ true → G k ≡ false → comp k ≡ comp j
+      → R k ≡ nextFit p comp (freeze p comp d j) k (S k)
+  unfolding freeze shift
+  shifted k y z on =
+      cond-true (nextFit p comp (freeze p comp d j) k (S k)) (S k)
+      (both (both y (ap not z)) (eq-eqb (comp k) (comp j) on))
 
-  -- It is the branch.
-  select-alike :
-      Alike p (adding (d .frozen) j) (select q d j .frozen) (placing p resource (d .frozen) (d .starts) j)
-      (select q d j .starts)
-  select-alike =
+  agrees : Agree (among p G) S R
+  agrees i f = sym (select-kept i (f .there))
+
+  new-frozen : Frozen p G j
+  new-frozen = record { below = open-j .has .below; there = adding-new F j }
+
+  more : (i : ℕ) → Frozen p F i → Frozen p G i
+  more i f = record { below = f .below; there = adding-old F j i (f .there) }
+
+  -- The node.
+  mid-agrees : Agree (among p G) (moved S j (S j)) S
+  mid-agrees i f =
+      by-cases (ℕ-discrete i j) (λ e. ap (moved S j (S j)) e ∙ moved-same S j (S j) ∙ sym (ap S e))
+      (λ ne. moved-other S j (S j) i ne)
+
+  mid : Node p G S
+  mid =
+      node-agree p G (moved S j (S j)) S mid-agrees
+      (child p F S (standing .node) j open-j (S j) (standing .at j there waits))
+
+  -- Less room than before.
+  room-less : (i x : ℕ) → Room p G S i x → Room p F S i x
+  room-less i x room =
       record {
-        sets = λ i l. unfold select in or-comm (eqb i j) (d .frozen i);
-        starts =
-            λ i f.
-            by-cases
-            (ℕ-discrete i j)
-            (λ e.
-            ap (placing p resource (d .frozen) (d .starts) j) e
-            ∙ moved-same (d .starts) j (soonestIn p resource d j)
-            ∙ sym start-j ∙ sym select-start ∙ sym (ap (next .starts) e))
-            (λ ne.
-            let y : d .frozen i ≡ true = ap (λ (x : Bool). x || d .frozen i) (sym (ne-eqb i j ne)) ∙ f .there in
-            moved-other (d .starts) j (soonestIn p resource d j) i ne ∙ sym (select-kept i y));
-      }
-
-  pub select-leaves : (mark : ℕ) (rows : List (List ℕ))
-      → Leaves p mark (select q d j .frozen) (select q d j .starts) rows
-      → Leaves p mark (adding (d .frozen) j) (placing p resource (d .frozen) (d .starts) j) rows
-  select-leaves mark rows l =
-      leaves-alike p (next .frozen) (adding (d .frozen) j) (next .starts)
-      (placing p resource (d .frozen) (d .starts) j)
-      (alike-sym p (adding (d .frozen) j) (next .frozen) (placing p resource (d .frozen) (d .starts) j)
-      (next .starts) select-alike)
-      mark
-      rows
-      l
-
-  -- The earliest starts.
-
-  soonest-kept : (i : ℕ) → soonestIn p resource d i ≤ soonestIn p resource next i
-  soonest-kept i =
-      soonest-mono p resource (d .frozen) (next .frozen) (d .starts) (next .starts) i
-      (λ k f. (frozen-after k (f .there), sym (select-kept k (f .there))))
-
-  has-next : (k : ℕ) → next .frozen k ≡ true → Has p k
-  has-next k y = split k y (λ e. rw e has-j) (λ ne old. has-frozen k old)
-
-  -- What precedes i ends before the tick, as before.
-  before-tick : (i k : ℕ) → d .placed i ≡ true → Has p k → p .precedes k i ≡ true
-      → (d .frozen k ≡ true) × (endIn p next k < d .tick) × (endIn p next k ≡ endIn p d k)
-  before-tick i k y h o =
-      let (f, l) = standing .behind i k y h o in
-      let e : next .starts k ≡ d .starts k = select-kept k f in
-      (f, omega arith, omega arith)
-
-  soonest-off : (i : ℕ) → d .placed i ≡ true → resource i ≢ r
-      → soonestIn p resource next i ≤ soonestIn p resource d i
-  soonest-off i y off =
-      soonest-le
-      p
-      resource
-      (next .frozen)
-      (next .starts)
-      i
-      (soonestIn p resource d i)
-      (λ k f o.
-      let (g, l, e) = before-tick i k y (has-next k (f .there)) o in
-      omega (arith, after-ready p resource (d .frozen) (d .starts) i k (frozen-before k g) o))
-      (λ k f e.
-      split
-      k
-      (f .there)
-      (λ new. absurd (off (sym e ∙ ap resource new ∙ b .on)))
-      (λ ne old.
-      omega (
-        arith,
-        select-kept k old,
-        after-avail p resource (d .frozen) (d .starts) i k (frozen-before k old) e,
-      )))
-
-  soonest-on : (i : ℕ) → d .placed i ≡ true → resource i ≡ r → soonestIn p resource next i ≡ endIn p d j
-  soonest-on i y on =
-      let low : endIn p next j ≤ soonestIn p resource next i =
-      after-avail p resource (next .frozen) (next .starts) i j new-frozen (b .on ∙ sym on) in
-      let high : soonestIn p resource next i ≤ endIn p d j =
-      soonest-le
-      p
-      resource
-      (next .frozen)
-      (next .starts)
-      i
-      (endIn p d j)
-      (λ k f o.
-      let (g, l, e) = before-tick i k y (has-next k (f .there)) o in
-      omega (arith, crosses .until))
-      (λ k f e.
-      split
-      k
-      (f .there)
-      (λ new. omega (arith, ap (next .starts) new, ap (p .duration) new, select-start))
-      (λ ne old.
-      omega (
-        arith,
-        select-kept k old,
-        frozen-over p resource bench q present given d standing r stops k old (e ∙ on),
-        crosses .until,
-      )))
-      in
-      omega (arith, select-start)
-
-  starts-soonest : (i : ℕ) → d .placed i ≡ true → next .frozen i ≡ false
-      → next .starts i ≡ soonestIn p resource next i
-  starts-soonest i y z =
-      let w : d .frozen i ≡ false = waits-before i z in
-      by-cases
-      (ℕ-discrete (resource i) r)
-      (λ on. shifted i y w on (not-new i z) ∙ sym (soonest-on i y on))
-      (λ off. omega (arith, select-off i off, standing .at i y w, soonest-kept i, soonest-off i y off))
-
-  -- What opens only now waits for j.
-  open-before : (i : ℕ) → Open p (next .frozen) i → p .precedes j i ≡ false → Open p (d .frozen) i
-  open-before i o off =
-      record {
-        has = o .has;
-        waits = waits-before i (o .waits);
-        freed =
-            λ k h c.
-            split k (o .freed k h c) (λ e. true-not-false c (ap (λ (x : ℕ). p .precedes x i) e ∙ off)) (λ ne old. old);
-      }
-
-  by-open : {C : Type 0} (i : ℕ) → Open p (next .frozen) i → (Open p (d .frozen) i → C)
-      → (d .tick ≤ soonestIn p resource next i → C) → C
-  by-open i o old new =
-      by-bool
-      (p .precedes j i)
-      (λ y.
-      new (
-      omega (
-        arith,
-        after-ready p resource (next .frozen) (next .starts) i j new-frozen y,
-        select-start,
-        crosses .until,
-      )
-      ))
-      (λ z. old (open-before i o z))
-
-  work-next : workOf p (d .frozen) + p .duration j ≤ workOf p (next .frozen)
-  work-next =
-      work-more p (d .frozen) (next .frozen) j (has-j .below) (b .is-open .waits) select-new select-more
-
-  pub select-standing : Standing p resource (select q d j) (select q d j .tick) (select q d j .tick)
-  unfolding select
-  select-standing =
-      record {
-        state =
-            state-alike p resource (adding (d .frozen) j) (next .frozen)
-            (placing p resource (d .frozen) (d .starts) j) (next .starts) bench select-alike
-            (child p resource bench (d .frozen) (d .starts) (standing .state) (d .tick) r
-            (tick-is p resource bench q present given d standing r stops) j b);
-        inside = standing .inside;
-        known = standing .known;
-        within = λ i y. split i y (λ e. ap (d .placed) e ∙ crosses .placed) (λ ne old. standing .within i old);
-        waiting = λ i h z. standing .waiting i h (waits-before i z);
-        running =
-            λ i y l.
-            split
-            i
-            y
-            (λ e. ap (d .term) e ∙ standing .waiting j has-j (b .is-open .waits))
-            (λ ne old. standing .running i old (omega (arith, select-kept i old)));
-        ended =
-            λ i y l.
-            split
-            i
-            y
-            (λ e. omega (arith, ap (next .starts) e, ap (p .duration) e, select-start, crosses .until))
-            (λ ne old. omega (arith, select-kept i old, standing .ended i old l));
-        begun =
-            λ i y.
-            split
-            i
-            y
-            (λ e. omega (arith, ap (next .starts) e, select-start, crosses .before))
-            (λ ne old. omega (arith, select-kept i old, standing .begun i old));
-        behind =
-            λ i k y h o.
-            let (f, l, e) = before-tick i k y h o in
-            (select-more k f, l);
-        at = starts-soonest;
-        unplaced =
-            λ i o z.
-            by-open i o (λ old. omega (arith, standing .unplaced i old z, soonest-kept i)) (λ l. l);
-        late =
-            λ i o.
-            by-open i o (λ old. omega (arith, standing .late i old, soonest-kept i)) (λ l. omega arith);
-        early =
-            λ i y.
-            split
-            i
-            y
-            (λ e.
+        from-floor = room .from-floor;
+        ready = λ k f o. room .ready k (more k f) o;
+        fits =
+            λ u r l from to.
             omega (
               arith,
-              ap (next .starts) e,
-              ap (p .duration) e,
-              select-start,
-              start-j,
-              soonest-early p resource d (d .tick) (d .tick) standing j,
-              work-next,
-            ))
-            (λ ne old. omega (arith, select-kept i old, standing .early i old, work-next));
+              room .fits u r l from to,
+              load-mono p F G S S u u r (λ k b w y runs. (adding-old F j k y, runs)),
+            );
       }
 
-  -- On its resource nothing ends at the scan-line any more.
-  pub select-settles : (k : ℕ) → d .placed k ≡ true → select q d j .frozen k ≡ false → resource k ≡ r
-      → d .tick < endIn p (select q d j) k
-  select-settles k y z on =
-      omega (
+  pub room-back : (i x : ℕ) → Room p (adding (d .frozen) j) (select p comp d j .starts) i x
+      → Room p (d .frozen) (d .starts) i x
+  room-back i x room = room-less i x (room-agree p G R S i x (agree-sym (among p G) S R agrees) room)
+
+  -- What precedes a placed one was frozen before.
+  still-ready : (k x : ℕ) → d .placed k ≡ true → d .frozen k ≡ false → S k ≤ x → (m : ℕ) → Frozen p G m
+      → p .precedes m k ≡ true
+      → endOf p S m + p .gap m k ≤ x
+  still-ready k x y z from m f o =
+      let h : Has p m =
+      by-added p F j m f (λ e. rw e (open-j .has))
+      (λ ne g. record { below = g .below; there = standing .node .inside m (g .below) (g .there) }) in
+      let g : Frozen p F m = is-frozen p d (d .tick) standing m (standing .behind k m y h o) in
+      omega (arith, standing .at k y z .room .ready m g o, from)
+
+  -- The earliest starts.
+  soon-shifted : (k : ℕ) → d .placed k ≡ true → d .frozen k ≡ false
+      → Soonest p G S k (nextFit p comp (freeze p comp d j) k (S k))
+  unfolding freeze
+  soon-shifted k y z =
+      next-soonest p comp (freeze p comp d j) k (S k) (given .alone k (standing .inside k y))
+      (standing .at k y z .room .from-floor)
+      (λ m f o. still-ready k (S k) y z (omega arith) m f o)
+      (λ x room. standing .at k y z .least x (room-less k x room))
+
+  soon-kept : (k : ℕ) → d .placed k ≡ true → d .frozen k ≡ false → comp k ≢ comp j → Soonest p G S k (S k)
+  soon-kept k y z off =
+      let h : Has p k = standing .inside k y in
+      record {
+        room =
+            record {
+              from-floor = standing .at k y z .room .from-floor;
+              ready = λ m f o. still-ready k (S k) y z (omega arith) m f o;
+              fits =
+                  λ u r l from to.
+                  by-cases (ℕ-discrete (p .units k r) 0)
+                  (λ none. omega (arith, none, mid .is-active .is-feasible .fits u r l))
+                  (λ some.
+                  omega (
+                    arith,
+                    standing .at k y z .room .fits u r l from to,
+                    load-mono p G F S S u u r
+                        (λ i b w f runs.
+                        by-added p F j i (record { below = b; there = f })
+                        (λ e.
+                        absurd
+                        (off
+                        (given .joint k j r h (open-j .has) l (omega (arith, some))
+                        (omega (arith, w, ap (λ (m : ℕ). p .units m r) e)))))
+                        (λ ne g. (g .there, runs))),
+                  ));
+            };
+        least = λ x room. standing .at k y z .least x (room-less k x room);
+      }
+
+  soon-next : (k : ℕ) → d .placed k ≡ true → G k ≡ false → Soonest p G R k (R k)
+  soon-next k y z =
+      let (_, old) = not-added F j k z in
+      by-cases (ℕ-discrete (comp k) (comp j))
+      (λ on.
+      rw (shifted k y z on)
+      (soonest-agree p G S R k (nextFit p comp (freeze p comp d j) k (S k)) agrees (soon-shifted k y old)))
+      (λ off. rw (select-off k off) (soonest-agree p G S R k (S k) agrees (soon-kept k y old off)))
+
+  -- What opens only now waits for j.
+  by-open : {C : Type 0} (i x : ℕ) → Open p G i → Room p G R i x → (Open p F i → C) → (d .tick ≤ x → C) → C
+  by-open i x o room old new =
+      by-bool (p .precedes j i)
+      (λ y.
+      new
+      (omega (
         arith,
-        shifted k y (waits-before k z) on (not-new k z),
-        crosses .until,
-        bench .sound .lasts k (standing .inside k y),
-      )
+        room .ready j new-frozen y,
+        select-kept j (adding-new F j),
+        ends-late p d (d .tick) standing j there waits,
+      )))
+      (λ z.
+      old
+      (record {
+        has = o .has;
+        waits = not-added F j i (o .waits) .1;
+        freed =
+            λ k h c.
+            by-added p F j k (record { below = h .below; there = o .freed k h c })
+            (λ e. true-not-false c (ap (λ (m : ℕ). p .precedes m i) e ∙ z))
+            (λ ne g. g .there);
+      }))
+
+  abbrev split : {C : Type 0} (i : ℕ) → G i ≡ true → (i ≡ j → C) → (d .frozen i ≡ true → C) → C
+  split i y new old =
+      by-cases (ℕ-discrete i j) new
+      (λ ne. old (ap (λ (x : Bool). x || d .frozen i) (sym (ne-eqb i j ne)) ∙ y))
+
+  pub select-standing : Standing p (select p comp d j) (select p comp d j .tick)
+  unfolding freeze shift
+  select-standing =
+      record {
+        node = node-agree p G S R agrees mid;
+        inside = standing .inside;
+        known = standing .known;
+        within = λ i y. split i y (λ e. ap (d .placed) e ∙ there) (λ f. standing .within i f);
+        waiting = λ i h z. standing .waiting i h (not-added F j i z .1);
+        running =
+            λ i y l.
+            split i y (λ e. ap (d .term) e ∙ standing .waiting j (open-j .has) waits)
+            (λ f. standing .running i f (omega (arith, l, select-kept i y)));
+        before =
+            λ i y.
+            split i y (λ e. omega (arith, select-kept i y, ap S e, early))
+            (λ f. omega (arith, select-kept i y, standing .before i f));
+        behind = λ i k y h o. adding-old F j k (standing .behind i k y h o);
+        at = soon-next;
+        unplaced =
+            λ i o z x room.
+            by-open i x o room (λ old. standing .unplaced i old z x (room-back i x room)) (λ l. l);
+        late =
+            λ i o x room.
+            by-open i x o room (λ old. standing .late i old x (room-back i x room)) (λ l. omega (arith, l));
+      }
+
+  -- It is the branch.
+  pub select-rows : (mark e : ℕ) (rows : List (List ℕ)) → d .starts j ≡ e
+      → Rows p mark (Under p comp (select p comp d j .frozen) (select p comp d j .starts)) rows
+      → Rows p mark (Under p comp (adding (d .frozen) j) (moved (d .starts) j e)) rows
+  unfolding freeze shift
+  select-rows mark e rows at =
+      let same : Agree (among p G) R (moved S j e) =
+      λ i f.
+      sym (agrees i f) ∙ sym (mid-agrees i f) ∙ ap (λ (x : ℕ). moved S j x i) at in
+      rows-same p mark (Under p comp G R) (Under p comp G (moved S j e)) rows
+      (λ T _ u. under-agree p comp G R (moved S j e) T same u)
+      (λ T _ u. under-agree p comp G (moved S j e) R T (agree-sym (among p G) R (moved S j e) same) u)

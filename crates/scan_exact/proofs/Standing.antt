@@ -1,119 +1,107 @@
--- A diagram of the scan stands for a state of the theory: the frozen activities with their starts, where what else is
--- placed starts at its earliest. T keeps what has yet to end.
-use Prim.Native.Nat.{ℕ, _+_, _≤_, _<_}
+-- A diagram of the scan stands for a node of the theory: what is frozen is a node, what else is placed starts at its
+-- earliest, and what is not placed can start at `line` or later only. T keeps what has yet to end.
+use Prim.Native.Nat.{ℕ, _≤_, _<_}
 use native.Mathlib.Omega.{arith}
-use mathlib.Core.Bool.{Bool, true, false, cond}
-use mathlib.Core.Path.{_≡_, refl, ap}
+use mathlib.Core.Bool.{Bool, true, false, not}
+use mathlib.Core.Path.{_≡_, sym, ap, _∙_}
+use borrow.Author.Tests.{not-true}
+use Rattle.base.proofs.Bools.{true-not-false, both, and-left, and-right}
 use Rattle.schedule.specs.Project.{Project}
 use Rattle.schedule.specs.Schedule.{Starts, endOf}
-use Rattle.base.proofs.Bools.{true-not-false, cond-true, cond-false}
-use Rattle.base.proofs.Below.{cond-mono, sum-le-but}
-use Rattle.schedule.proofs.Load.{Has}
-use Rattle.schedule.proofs.OneUnit.{Bench}
-use Rattle.branching.proofs.Partial.{Frozen, Open, soonest, after-ready, after-avail, soonest-le, Partial, root}
-use Rattle.scan.specs.Scan.{Diagram, rightEnd, empty}
-use Rattle.scan.specs.Model.{Problem}
-use Rattle.scan_exact.proofs.Shows.{Models, workOf, present-has, has-present}
+use Rattle.schedule.proofs.Load.{Has, Sound, among}
+use Rattle.schedule.proofs.Reflect.{Feasible}
+use Rattle.schedule.proofs.Agree.{Agree, Active-agree}
+use Rattle.branching.proofs.Room.{Frozen, Open, Soonest}
+use Rattle.branching.proofs.Node.{Node, begunOf, root}
+use Rattle.branching.proofs.Under.{Components, Under}
+use Rattle.scan.specs.Scan.{Diagram}
+use Rattle.scan.specs.Scan.{readyTick, nextFit, begun}
+use Rattle.scan_exact.proofs.Rooms.{next-soonest, ready-after, ready-floor, ready-least}
+pub use Rattle.scan_exact.specs.Standing.{Standing}
 
-abbrev pub endIn : Project → Diagram → ℕ → ℕ
-endIn p d i = endOf p (d .starts) i
+-- What the scan is given: a component for each activity, below the number of activities, and each activity fits alone.
+-- What has begun fits, and began before the floor and after what precedes it.
+pub record Scannable (p : Project) (comp : ℕ → ℕ) : Type 0 where
+  pub sound : Sound p
+  pub joint : Components p comp
+  pub few : (i : ℕ) → Has p i → comp i < p .size
+  pub beyond : (i : ℕ) → p .present i ≡ true → i < p .size
+  pub alone : (i : ℕ) → Has p i → (r : ℕ) → r < p .resources → p .units i r ≤ p .capacity r
 
-abbrev pub soonestIn : Project → (ℕ → ℕ) → Diagram → ℕ → ℕ
-soonestIn p resource d i = soonest p resource (d .frozen) (d .starts) i
+pub record Begun (p : Project) : Type 0 where
+  pub closed : (i j : ℕ) → Has p i → Has p j → p .precedes i j ≡ true → p .free j ≡ false → p .free i ≡ false
+  pub fits : Feasible (among p (begunOf p)) (p .begun)
+  pub early : (i : ℕ) → Has p i → p .free i ≡ false → p .begun i < p .floor
 
--- T has lost the frozen activities that end before `next`, and nothing else ends before it. What is frozen starts
--- before `line`, and what is not placed can start at `line` or later only.
-pub record Standing (p : Project) (resource : ℕ → ℕ) (d : Diagram) (next line : ℕ) : Type 0 where
-  pub state : Partial p resource (d .frozen) (d .starts)
-  pub inside : (i : ℕ) → d .placed i ≡ true → Has p i
-  pub known : (i : ℕ) → d .term i ≡ true → Has p i
-  pub within : (i : ℕ) → d .frozen i ≡ true → d .placed i ≡ true
-  pub waiting : (i : ℕ) → Has p i → d .frozen i ≡ false → d .term i ≡ true
-  pub running : (i : ℕ) → d .frozen i ≡ true → next ≤ endIn p d i → d .term i ≡ true
-  pub ended : (i : ℕ) → d .frozen i ≡ true → d .term i ≡ true → next ≤ endIn p d i
-  pub begun : (i : ℕ) → d .frozen i ≡ true → d .starts i < line
-  pub behind : (i k : ℕ) → d .placed i ≡ true → Has p k → p .precedes k i ≡ true
-      → (d .frozen k ≡ true) × (endIn p d k < next)
-  pub at : (i : ℕ) → d .placed i ≡ true → d .frozen i ≡ false → d .starts i ≡ soonestIn p resource d i
-  pub unplaced : (i : ℕ) → Open p (d .frozen) i → d .placed i ≡ false → line ≤ soonestIn p resource d i
-  pub late : (i : ℕ) → Open p (d .frozen) i → next ≤ soonestIn p resource d i + p .duration i
-  pub early : (i : ℕ) → d .frozen i ≡ true → endIn p d i ≤ workOf p (d .frozen)
+module _ (p : Project) (d : Diagram) (line : ℕ) (standing : Standing p d line) where
+  pub has-frozen : (i : ℕ) → d .frozen i ≡ true → Has p i
+  has-frozen i y = standing .inside i (standing .within i y)
 
-pub right-end : (p : Project) (resource : ℕ → ℕ) (q : Problem) (present : ℕ) → Models p resource q present
-    → (d : Diagram) (i : ℕ) → Has p i → rightEnd q d i ≡ endIn p d i
-right-end p resource q present given d i h = ap (d .starts i +_) (given .durations i h)
-
--- Where more is frozen, at the same starts, nothing can start sooner.
-pub soonest-mono : (p : Project) (resource : ℕ → ℕ) (F G : ℕ → Bool) (S R : Starts) (i : ℕ)
-    → ((k : ℕ) → Frozen p F k → Frozen p G k × (S k ≡ R k))
-    → soonest p resource F S i ≤ soonest p resource G R i
-soonest-mono p resource F G S R i kept =
-    soonest-le
-    p
-    resource
-    F
-    S
-    i
-    (soonest p resource G R i)
-    (λ k f o. let (g, e) = kept k f in omega (arith, after-ready p resource G R i k g o))
-    (λ k f o. let (g, e) = kept k f in omega (arith, after-avail p resource G R i k g o))
-
--- A set with j, and maybe others, has the work of the set and of j.
-pub work-more : (p : Project) (F G : ℕ → Bool) (j : ℕ) → j < p .size → F j ≡ false → G j ≡ true
-    → ((i : ℕ) → F i ≡ true → G i ≡ true) → workOf p F + p .duration j ≤ workOf p G
-work-more p F G j l z y more =
-    omega (
-      arith,
-      sum-le-but
-          (p .size)
-          (λ k. cond (F k) (p .duration k) 0)
-          (λ k. cond (G k) (p .duration k) 0)
-          j
-          (p .duration j)
-          0
-          l
-          (λ i l′ ne. cond-mono (F i) (G i) (p .duration i) (more i))
-          (omega (arith, cond-false (p .duration j) 0 z, cond-true (p .duration j) 0 y)),
-    )
-
-module _ (p : Project) (resource : ℕ → ℕ) (d : Diagram) (next line : ℕ)
-    (standing : Standing p resource d next line) where
   pub is-frozen : (i : ℕ) → d .frozen i ≡ true → Frozen p (d .frozen) i
-  is-frozen i y = record { below = standing .inside i (standing .within i y) .below; there = y }
+  is-frozen i y = record { below = has-frozen i y .below; there = y }
 
   pub placed-open : (i : ℕ) → d .placed i ≡ true → d .frozen i ≡ false → Open p (d .frozen) i
   placed-open i y z =
-      record { has = standing .inside i y; waits = z; freed = λ k h o. standing .behind i k y h o .0 }
+      record { has = standing .inside i y; waits = z; freed = λ k h o. standing .behind i k y h o }
 
-  pub soonest-early : (i : ℕ) → soonestIn p resource d i ≤ workOf p (d .frozen)
-  soonest-early i =
-      soonest-le
-      p
-      resource
-      (d .frozen)
-      (d .starts)
-      i
-      (workOf p (d .frozen))
-      (λ k f o. standing .early k (f .there))
-      (λ k f o. standing .early k (f .there))
+  -- What is placed and not frozen ends on the scan-line or behind it.
+  pub ends-late : (i : ℕ) → d .placed i ≡ true → d .frozen i ≡ false → d .tick ≤ endOf p (d .starts) i
+  ends-late i y z = standing .late i (placed-open i y z) (d .starts i) (standing .at i y z .room)
 
--- The empty diagram.
-pub empty-standing : (p : Project) (resource : ℕ → ℕ) (bench : Bench p resource) (q : Problem) (present : ℕ)
-    → Models p resource q present → Standing p resource (empty present) 1 0
-unfolding empty
-empty-standing p resource bench q present given =
+  -- The earliest start of an open activity, by its next fit.
+  module _ (comp : ℕ → ℕ) (given : Scannable p comp) where
+    pub soonest-open : (i : ℕ) → Open p (d .frozen) i
+        → Soonest p (d .frozen) (d .starts) i (nextFit p comp d i (readyTick p comp d i))
+    soonest-open i o =
+        next-soonest p comp d i (readyTick p comp d i) (given .alone i (o .has)) (ready-floor p comp d i)
+        (λ k f c. ready-after p comp d (standing .node) i k f c)
+        (λ x room.
+        ready-least p comp d i x (room .from-floor)
+        (λ k h c. room .ready k (record { below = h .below; there = o .freed k h c }) c))
+
+-- Two earliest starts are one.
+pub soonest-same : (p : Project) (F : ℕ → Bool) (S : Starts) (i a b : ℕ) → Soonest p F S i a → Soonest p F S i b
+    → a ≡ b
+soonest-same p F S i a b x y = omega (arith, x .least b (y .room), y .least a (x .room))
+
+-- A node and what is under it, where the frozen ones start at the same ticks.
+pub node-agree : (p : Project) (F : ℕ → Bool) (S R : Starts) → Agree (among p F) S R → Node p F S → Node p F R
+node-agree p F S R a node =
     record {
-      state = root p resource (λ i. 0) bench;
-      inside = λ i y. true-not-false y refl;
-      known = λ i y. present-has p resource q present given i y;
-      within = λ i y. true-not-false y refl;
-      waiting = λ i h z. has-present p resource q present given i h;
-      running = λ i y l. true-not-false y refl;
-      ended = λ i y l. true-not-false y refl;
-      begun = λ i y. true-not-false y refl;
-      behind = λ i k y h o. true-not-false y refl;
-      at = λ i y z. true-not-false y refl;
-      unplaced = λ i o z. omega arith;
-      late = λ i o. omega (arith, bench .sound .lasts i (o .has));
-      early = λ i y. true-not-false y refl;
+      inside = node .inside;
+      closed = node .closed;
+      begun = node .begun;
+      is-active = Active-agree (among p F) S R a (node .is-active);
     }
+
+pub under-agree : (p : Project) (comp : ℕ → ℕ) (F : ℕ → Bool) (S R T : Starts) → Agree (among p F) S R
+    → Under p comp F S T
+    → Under p comp F R T
+under-agree p comp F S R T a u = record { agrees = λ i f. sym (a i f) ∙ u .agrees i f; after = u .after }
+
+-- What has begun, at the floor.
+module _ (p : Project) (comp : ℕ → ℕ) (given : Scannable p comp) (b : Begun p) where
+  begun-in : (i : ℕ) → begunOf p i ≡ true → Has p i × (p .free i ≡ false)
+  begun-in i y =
+      let there : p .present i ≡ true = and-left (p .present i) (not (p .free i)) y in (
+        record { below = given .beyond i there; there = there },
+        not-true (p .free i) (and-right (p .present i) (not (p .free i)) y),
+      )
+
+  pub begun-standing : Standing p (begun p comp) (begun p comp .tick)
+  unfolding begun
+  begun-standing =
+      record {
+        node = root p (p .begun) (b .closed) (b .fits);
+        inside = λ i y. begun-in i y .0;
+        known = λ i y. record { below = given .beyond i y; there = y };
+        within = λ i y. y;
+        waiting = λ i h z. h .there;
+        running = λ i y l. begun-in i y .0 .there;
+        before = λ i y. let (h, z) = begun-in i y in b .early i h z;
+        behind =
+            λ i k y h o. let (hi, z) = begun-in i y in both (h .there) (ap not (b .closed k i h hi o z));
+        at = λ i y z. true-not-false y z;
+        unplaced = λ i o z x room. room .from-floor;
+        late = λ i o x room. omega (arith, room .from-floor);
+      }

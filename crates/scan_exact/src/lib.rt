@@ -1,1 +1,1 @@
-// The search's model finds the sessions of a project, each once. There is no code here.
+// The scan over any project finds its active schedules, each once. There is no code here.

@@ -12,9 +12,7 @@ use Rattle.schedule.specs.Schedule.{Starts, load, latestEnd, moved, earl
 use Rattle.base.proofs.Bools.{by-bool}
 use Rattle.schedule.proofs.Load.{Has, among, load-mono, latest-mono, moved-same, moved-other}
 use Rattle.schedule.proofs.Reflect.{Feasible, Active}
-
-abbrev pub Agree : Project → Starts → Starts → Type 0
-Agree p S S′ = (i : ℕ) → Has p i → S i ≡ S′ i
+pub use Rattle.schedule.specs.Facts.{Agree}
 
 pub agree-sym : (p : Project) (S S′ : Starts) → Agree p S S′ → Agree p S′ S
 agree-sym p S S′ a i h = sym (a i h)

@@ -21,6 +21,7 @@ use Rattle.schedule.proofs.Bounds.{starts-below-horizon}
 use Rattle.base.specs.Order.{Before}
 use Rattle.base.proofs.Order.{before-prop, cons-before, cons-ordered, ordered-nodup}
 use Rattle.base.proofs.Lists.{keep-is, keep-mem, keep-pairwise, gather-is, gather-mem, gather-pairwise}
+pub use Rattle.schedule.specs.Facts.{SessionRow}
 
 -- A row for the activities from number k on, of which there are n more.
 pub record BoxRow (p : Project) (mark k n : ℕ) (row : List ℕ) : Type 0 where
@@ -110,11 +111,6 @@ rows-ordered p mark k (suc n) =
     (λ z. rw z (rest mark))
 
 -- Sessions.
-
-pub record SessionRow (p : Project) (mark : ℕ) (row : List ℕ) : Type 0 where
-  pub long : length row ≡ p .size
-  pub marked : (i : ℕ) → i < p .size → p .present i ≡ false → startsOf row i ≡ mark
-  pub is-active : Active p (startsOf row)
 
 pub session-is : (p : Project) (mark : ℕ) (row : List ℕ) → List·Memᴰ row (sessions p mark) → SessionRow p mark row
 unfolding sessions

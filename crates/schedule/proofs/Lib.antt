@@ -2,6 +2,8 @@
 pub mod Load
 pub mod Reflect
 pub mod Agree
+pub mod Alike
+pub mod Growth
 pub mod Moves
 pub mod Makespan
 pub mod Compact

@@ -10,34 +10,10 @@ use lib.Dec.{leb, ltb}
 use borrow.Author.Tests.{leb-true, ltb-true, le-leb, lt-ltb, eq-eqb, ne-eqb}
 use Rattle.schedule.specs.Project.{Project}
 pub use Rattle.schedule.specs.Bounds.{Has}
+pub use Rattle.schedule.specs.Facts.{Sound, Unfixed, among}
 use Rattle.schedule.specs.Schedule.{Starts, endOf, runs, load, latestEnd, moved}
 use Rattle.base.proofs.Bools.{by-bool, both, and-left, and-right, cond-true, cond-false}
 use Rattle.base.proofs.Below.{cond-le, sum-le, sum-le-but, sum-zero, sum-term, sum-some, max-term, max-least}
-
--- Every activity lasts a tick or more.
-pub record Sound (p : Project) : Type 0 where
-  pub lasts : (i : ℕ) → Has p i → 1 ≤ p .duration i
-
--- Every activity is free.
-pub record Unfixed (p : Project) : Type 0 where
-  pub all-free : (i : ℕ) → Has p i → p .free i ≡ true
-
--- The same project with the activities of a set only.
-abbrev pub among : Project → (ℕ → Bool) → Project
-among p set =
-    record {
-      size = p .size;
-      present = set;
-      duration = p .duration;
-      precedes = p .precedes;
-      gap = p .gap;
-      resources = p .resources;
-      capacity = p .capacity;
-      units = p .units;
-      free = p .free;
-      floor = p .floor;
-      begun = p .begun;
-    }
 
 -- i runs on tick t.
 abbrev pub Runs : Project → Starts → ℕ → ℕ → Type 0

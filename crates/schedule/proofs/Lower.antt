@@ -1,13 +1,13 @@
 -- Bounds of the makespan from below, by any chain of precedence and by what any resource has to carry; and from above
 -- by the sum of the durations.
-use Prim.Native.Nat.{ℕ, _+_, _*_, _-_, _/_, _≤_, _<_}
-use native.Mathlib.Nat.{le-of-suc-le-suc, div-lt-iff-lt-mul}
+use Prim.Native.Nat.{ℕ, _+_, _*_, _-_, _≤_, _<_}
+use native.Mathlib.Nat.{le-of-suc-le-suc, lt-suc-self, div-lt-iff-lt-mul}
 use native.Mathlib.Omega.{arith}
 use mathlib.Core.Bool.{cond}
 use mathlib.Core.List.{List, [], _∷_}
 use Rattle.base.specs.Below.{sumBelow}
 use Rattle.schedule.specs.Project.{Project}
-pub use Rattle.schedule.specs.Bounds.{Chain, chainLength, demand}
+use Rattle.schedule.specs.Bounds.{Chain, chainLength, demand, loadOf}
 use Rattle.schedule.specs.Schedule.{Starts, load, latestEnd, makespan}
 use Rattle.base.proofs.Bools.{by-bool, cond-true, cond-false}
 use Rattle.base.proofs.Below.{sum-le, sum-const, sum-window, sum-swap}
@@ -76,12 +76,19 @@ demand-bound p S f r l =
           (λ t b. f .fits (earliest p S + t) r l),
     )
 
--- Shared out over the units of r and rounded up. It waits for an edition with several units to a resource.
-pub demand-rounded : (p : Project) (S : Starts) → Feasible p S → (r : ℕ) → r < p .resources → 0 < p .capacity r
-    → (demand p r + (p .capacity r - 1)) / p .capacity r ≤ makespan p S
-demand-rounded p S f r l some =
-    let within : demand p r ≤ makespan p S * p .capacity r = demand-bound p S f r l in
-    le-of-suc-le-suc (div-lt-iff-lt-mul some .1 (omega arith))
+-- The load of r is the least number of ticks in which its units can carry what is asked of it.
+pub load-covers : (p : Project) (r : ℕ) → 0 < p .capacity r → demand p r ≤ loadOf p r * p .capacity r
+unfolding loadOf
+load-covers p r some = omega (arith, div-lt-iff-lt-mul some .0 (lt-suc-self (loadOf p r)))
+
+pub load-least : (p : Project) (r n : ℕ) → 0 < p .capacity r → demand p r ≤ n * p .capacity r → loadOf p r ≤ n
+unfolding loadOf
+load-least p r n some within = le-of-suc-le-suc (div-lt-iff-lt-mul some .1 (omega arith))
+
+-- So it is no more than the makespan.
+pub load-bound : (p : Project) (S : Starts) → Feasible p S → (r : ℕ) → r < p .resources → 0 < p .capacity r
+    → loadOf p r ≤ makespan p S
+load-bound p S f r l some = load-least p r (makespan p S) some (demand-bound p S f r l)
 
 -- From above.
 pub work-bound : (p : Project) (S : Starts) → Sound p → Unfixed p → NoGaps p → Active p S → makespan p S ≤ work p

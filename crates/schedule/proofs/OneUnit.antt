@@ -1,12 +1,12 @@
--- The bench in force: each resource has one unit, an activity takes that of its own resource, there are no gaps,
--- every activity is free and the clock starts at 0. There the rule by ticks says that two on one resource do not
--- overlap.
+-- The bench of the first edition: each resource has one unit, an activity takes that of its own resource, there are
+-- no gaps, every activity is free and the clock starts at 0. There the rule by ticks says that two on one resource do
+-- not overlap.
 use Prim.Native.Nat.{ℕ, _≤_, _<_}
 use native.Mathlib.Decide.{ℕ-discrete, decLe}
 use native.Mathlib.Omega.{arith}
 use mathlib.Core.Bool.{true, cond}
 use mathlib.Core.Path.{_≡_, refl, sym, _∙_}
-use mathlib.Core.Logic.{_≢_, _↔_, _⊎_, inl, inr, ⊎-elim, by-cases}
+use mathlib.Core.Logic.{_≢_, _↔_, inl, inr, ⊎-elim, by-cases}
 use lib.Dec.{eqb}
 use borrow.Author.Tests.{eqb-true, eq-eqb}
 use Rattle.schedule.specs.Project.{Project}

@@ -5,7 +5,7 @@ use native.Mathlib.Decide.{decLt}
 use native.Mathlib.Omega.{arith}
 use mathlib.Core.Bool.{Bool, true, false, not, cond, _&&_}
 use mathlib.Core.Path.{_≡_, refl, sym, _∙_}
-use mathlib.Core.Logic.{_↔_, by-cases}
+use mathlib.Core.Logic.{by-cases}
 use lib.Dec.{leb, eqb}
 use borrow.Author.Tests.{leb-true, le-leb, eqb-true, eq-eqb, not-true, not-false}
 use Rattle.base.specs.Below.{everyBelow, _implies_}
@@ -15,17 +15,7 @@ use Rattle.schedule.specs.Schedule.{moved, active}
 use Rattle.base.proofs.Bools.{by-bool, true-not-false, both, and-left, and-right, not-both, cond-true, cond-false}
 use Rattle.base.proofs.Below.{implies-elim, implies-intro, implies-fails, every-at, every-of, every-fails}
 use Rattle.schedule.proofs.Load.{Has, load-after}
-
-pub record Feasible (p : Project) (S : Starts) : Type 0 where
-  pub from-floor : (i : ℕ) → Has p i → p .free i ≡ true → p .floor ≤ S i
-  pub as-begun : (i : ℕ) → Has p i → p .free i ≡ false → S i ≡ p .begun i
-  pub ordered : (i j : ℕ) → Has p i → Has p j → p .precedes i j ≡ true → endOf p S i + p .gap i j ≤ S j
-  pub fits : (t r : ℕ) → r < p .resources → load p S t r ≤ p .capacity r
-
--- No start of a free activity can be made smaller, the others unchanged.
-pub record Active (p : Project) (S : Starts) : Type 0 where
-  pub is-feasible : Feasible p S
-  pub least : (j : ℕ) → Has p j → p .free j ≡ true → (t : ℕ) → t < S j → Feasible p (moved S j t) → ⊥
+pub use Rattle.schedule.specs.Facts.{Feasible, Active}
 
 -- feasible
 
@@ -158,9 +148,6 @@ feasible-of p S f =
     cond-false (leb (p .floor) (S i)) (eqb (S i) (p .begun i)) z ∙ eq-eqb (S i) (p .begun i) (f .as-begun i h z))))
     (order-of p S (f .ordered)))
     (fits-of p S (f .fits))
-
-pub feasible-iff : (p : Project) (S : Starts) → (feasible p S ≡ true) ↔ Feasible p S
-feasible-iff p S = (feasible-is p S, feasible-of p S)
 
 -- active
 

@@ -1,6 +1,6 @@
--- What bounds a makespan: a chain of precedence and what a resource has to carry from below, the sum of the durations
--- from above.
-use Prim.Native.Nat.{ℕ, _+_, _*_, _<_}
+-- What bounds a makespan: a chain of precedence and the load of a resource from below, the sum of the durations from
+-- above.
+use Prim.Native.Nat.{ℕ, _+_, _*_, _-_, _/_, _<_}
 use mathlib.Core.Bool.{true, cond}
 use mathlib.Core.List.{List, [], _∷_}
 use mathlib.Core.Path.{_≡_}
@@ -25,6 +25,10 @@ chainLength p i (j ∷ js) = p .duration i + p .gap i j + chainLength p j js
 -- What the activities ask of r: units held, times ticks.
 unfoldable pub demand : Project → ℕ → ℕ
 demand p r = sumBelow (p .size) λ i. cond (p .present i) (p .duration i * p .units i r) 0
+
+-- The load of r: that, shared out over its units and rounded up.
+unfoldable pub loadOf : Project → ℕ → ℕ
+loadOf p r = (demand p r + (p .capacity r - 1)) / p .capacity r
 
 -- The sum of the durations.
 unfoldable pub work : Project → ℕ

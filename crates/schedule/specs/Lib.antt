@@ -3,4 +3,5 @@ pub mod Project
 pub mod Schedule
 pub mod Sessions
 pub mod Bounds
+pub mod Facts
 pub mod Words

@@ -1,393 +1,181 @@
--- A contest at the line, resolved one rival after the other: what each rival is, what the loop over them keeps, and the
--- state below each.
-use Prim.Native.Nat.{ℕ, zero, suc, _+_, _-_, _/_, _%_, _^_, _≤_, _<_, max}
+-- What the moves without a branch lead to: a contest, or what is left is uncontested.
+use Prim.Native.Nat.{ℕ, _^_, _≤_, _<_}
 use native.Mathlib.Decide.{ℕ-discrete}
 use native.Mathlib.Omega.{arith}
-use mathlib.Core.Bool.{true, false, cond}
-use mathlib.Core.List.{List, foldl}
-use mathlib.Core.Logic.{_≢_, by-cases}
-use mathlib.Core.Path.{_≡_, refl, sym, ap, ap₂, _∙_, subst, subst₂}
-use lib.ListN.{set}
-use lib.Seq.{getD-set-same, getD-set-other, set-set, set-comm}
-use Rattle.base.proofs.Bools.{by-bool, true-not-false, and-left, cond-true, cond-false}
-use borrow.Author.Tests.{eq-eqb}
-use Rattle.plan.specs.Limits.{latestPossible, mostResources, packing}
-use Rattle.sets.specs.Sets.{most, has, meet, size}
-use Rattle.sets.specs.Lowest.{afterLowest}
-use Rattle.sets.proofs.Laws.{has-none, has-some, has-and, meet-of}
-use Rattle.sets.proofs.Members.{two-left}
-use Rattle.network.specs.Network.{durationAt, resourceAt, onAt}
-use Rattle.scan.specs.Model.{State, never, finish, key, isChoice, freeze}
-use Rattle.candidates.specs.Tables.{problemIn}
-use Rattle.candidates.specs.Work.{endAt, readyAt, freeAt, finishAt, keyAt, leastAt, crowd, Timed, Uncontested}
-use Rattle.candidates.specs.Work.{freeFrom, readyFrom}
-use Rattle.candidates.proofs.Columns.{resource-at}
-use Rattle.candidates.proofs.Crowd.{crowd-without, crowd-none}
-use Rattle.tally.specs.Seen.{Kept, seenIn}
-use Rattle.tally.specs.Leaf.{Fit}
-use Rattle.moves.specs.Moves.{unfrozenIn}
-use Rattle.moves.specs.declared.Line.{Line}
-use Rattle.unbranched.specs.AtLine.{Base, Searched, OnLine, BesideLine, ExploredLine}
-use Rattle.unbranched.specs.Run.{Run, selects, forgets, hereIn, Advances}
-use Rattle.search.specs.Lone.{Lone, EndsAlone}
-use Rattle.unbranched.specs.declared.Stop.{Stop}
-use Rattle.unbranched.proofs.Parts.{timed-store, least-eq, stays, gone-of, still, other, member-below, choice-parts}
-use Rattle.unbranched.proofs.Line.{line-kept}
-use Rattle.unbranched.proofs.Frozen.{base-same, finish-early}
-use Rattle.unbranched.proofs.Chosen as chosen
-use Rattle.unbranched.proofs.Chosen.{Stores}
+use mathlib.Core.Bool.{true, false}
+use mathlib.Core.List.{List}
+use mathlib.Core.Logic.{by-cases}
+use mathlib.Core.Path.{_≡_, refl, sym, ap, _∙_, subst}
+use Rattle.base.proofs.Bools.{true-not-false}
+use Rattle.sets.specs.Sets.{most, has, size}
+use Rattle.sets.specs.Lowest.{lowestOf, afterLowest}
+use Rattle.sets.proofs.Laws.{meet-at, size-sub}
+use Rattle.sets.proofs.Members.{lowest-has}
+use Rattle.timetable.specs.Mark.{mark}
+use Rattle.branching.proofs.Rows.{some-rows}
+use Rattle.scan.specs.Scan.{Diagram}
+use Rattle.instance.specs.Instance.{ownOf, Instance}
+use Rattle.instance.specs.Table.{capOf, ownAt, tightOf, projectIn}
+use Rattle.profile.specs.Work.{freeAt, soonAt}
+use Rattle.tally.specs.Seen.{Kept, keptOf, tallyOf, IsTally}
+use Rattle.tally.proofs.Passed.{stopped}
+use Rattle.steps.specs.declared.Line.{Line}
+use Rattle.steps.proofs.Sets.{loose-is}
+use Rattle.steps.proofs.Given.{scannable}
+use Rattle.unbranched.specs.Position.{Position, Explored}
+use Rattle.unbranched.specs.Advance.{Advances}
+use Rattle.unbranched.specs.declared.Reached.{Reached}
+use Rattle.unbranched.proofs.Advancing.{here-low, beside-on}
+use Rattle.unbranched.proofs.Alone.{acts-c, here-is}
+use Rattle.completion.specs.Rest.{Uncontested}
+use Rattle.ordering.specs.Lone.{Lone, Ordered}
+use Rattle.ordering.proofs.Entry.{lone-of, explored-of}
+use Rattle.search.specs.Choice.{InConflict}
+use Rattle.search.specs.Branch.{Contest}
+use Rattle.search.proofs.Rivals.{tight-free}
+use Rattle.search.proofs.Branches.{uncontested, beside-itself, rival-loose, rival-tight, rival-early, choosing}
 
--- A part of a set has no more members.
-size-within : (n a b : ℕ) → ((i : ℕ) → has a i ≡ true → has b i ≡ true) → size a n ≤ size b n
-unfolding size
-size-within zero a b f = omega arith
-size-within (suc n) a b f =
-    let rest : size a n ≤ size b n = size-within n a b f in
-    by-bool (has a n)
-    (λ y.
-    let there : has b n ≡ true = f n y in
-    rw (y, there) (omega arith))
-    (λ y. rw y (omega arith))
-
--- ---- what is kept
-
-pub beside-refl : (t : List ℕ) (l : Line) (w : List ℕ) → Timed t w → BesideLine t l w w
-beside-refl t l w timed =
-    record { timed = timed; ends = λ i b n. refl; ready = λ i b h. refl; free = λ r b. refl }
-
--- The least key depends on what is kept alone.
-least-kept : {t : List ℕ} {l : Line} {w w′ : List ℕ} → BesideLine t l w w′
-    → leastAt t w (unfrozenIn l) ≡ leastAt t w′ (unfrozenIn l)
-unfolding leastAt
-least-kept {t} {l} {w} {w′} b =
-    least-eq most (λ i. cond (has (unfrozenIn l) i) (keyAt t w i) never)
-    (λ i. cond (has (unfrozenIn l) i) (keyAt t w′ i) never)
-    (λ i low.
-    by-bool (has (unfrozenIn l) i)
-    (λ y.
-    let there : has (l .placed) i ≡ true =
-    and-left (has (l .placed) i) (has (l .left) i) (sym (has-and (l .placed) (l .left) i) ∙ y) in
-    let same : keyAt t w i ≡ keyAt t w′ i =
-    omega (arith, b .ready i low there, b .free (resourceAt t i) (omega arith)) in
-    ap (λ (x : ℕ). cond (has (unfrozenIn l) i) x never) same)
-    (λ n. cond-false (keyAt t w i) never n ∙ sym (cond-false (keyAt t w′ i) never n)))
-
--- What is kept at the line where the moves have led is kept where they began.
-module _ {t : List ℕ} {l : Line} {latest : ℕ} {w w₁ : List ℕ} {r : Stop} (a : Advances t l latest w w₁ r) where
-  beside-after : {w₂ : List ℕ} → BesideLine t (r .line) w₁ w₂ → BesideLine t l w w₂
-  beside-after b =
-      record {
-        timed = b .timed;
-        ends = λ i h n.
-            b .ends i h (by-bool (has (r .line .left) i) (λ y. true-not-false (a .fewer i y) n) (λ y. y))
-            ∙ a .beside .ends i h n;
-        ready = λ i h y. b .ready i h (a .more i y) ∙ a .beside .ready i h y;
-        free = λ q h. b .free q h ∙ a .beside .free q h;
-      }
-
-  pub size-after : size (r .line .left) most ≤ size (l .left) most
-  size-after = size-within most (r .line .left) (l .left) (a .fewer)
-
-  searched-after : {b : List ℕ} {k : Kept} {cells area : List ℕ} (s : State) (base : Base t (l .left) latest w s)
-      (on : OnLine t l w s) → Searched t b (a .at s base on .0) k cells area → Searched t b s k cells area
-  searched-after {b} {k} s base on h =
-      record { tally = h .tally; kept = h .kept ∙ ap (foldl (seenIn t b) k) (sym (a .at s base on .3)) }
-
-  -- Nothing is contested there.
-  pub settled-apart : Fit t → r .line .left < 2 ^ most → r .rivals ≡ 0 → Uncontested t (r .line .left)
-  settled-apart fit low none = crowd-none t (r .line .left) (fit .grouped) low (sym (a .many) ∙ a .settled none)
-
-  pub settled-after : {b : List ℕ} {k : Kept} {w₂ cells area : List ℕ}
-      → ExploredLine t b (r .line) (r .latest) k w₁ w₂ cells area
-      → ExploredLine t b l latest k w w₂ cells area
-  settled-after e =
-      record {
-        beside = beside-after (e .beside);
-        searched = λ s base on.
-            let there = a .at s base on in
-            searched-after s base on (e .searched (there .0) (there .1) (there .2));
-      }
-
--- ---- a contest
-
--- The line stands at the state, and the rivals are its choices.
-pub record Contest (t : List ℕ) (stop : Stop) (w : List ℕ) (s : State) : Type 0 where
-  pub base : Base t (stop .line .left) (stop .latest) w s
-  pub on : OnLine t (stop .line) w s
-  pub two : 0 < afterLowest (stop .rivals)
-  pub low : stop .rivals < 2 ^ most
-  pub choices : (i : ℕ) → i < most → has (stop .rivals) i ≡ isChoice (problemIn t) s (key (problemIn t) s) i
-  pub at : stop .line .tick ≡ key (problemIn t) s / packing
-
-module _ {t : List ℕ} {l : Line} {latest : ℕ} {w w₁ : List ℕ} {r : Stop} (a : Advances t l latest w w₁ r)
-    (some : 0 < r .rivals) where
-  pub contest-there : (s : State) (base : Base t (l .left) latest w s) (on : OnLine t l w s)
-      → Contest t r w₁ (a .at s base on .0)
-  contest-there s base on =
-      let there = a .at s base on in
-      let c = there .4 some in
-      record { base = there .1; on = there .2; two = c .0; low = c .3; choices = c .1; at = c .2 }
-
-  pub contest-after : {b : List ℕ} {k : Kept} {w₂ cells area : List ℕ} → BesideLine t (r .line) w₁ w₂
-      → ((s : State) → Contest t r w₁ s → Searched t b s k cells area)
-      → ExploredLine t b l latest k w w₂ cells area
-  contest-after beside found =
-      record {
-        beside = beside-after a beside;
-        searched = λ s base on.
-            searched-after a s base on (found (a .at s base on .0) (contest-there s base on));
-      }
-
-module _ {t : List ℕ} (fit : Fit t) {stop : Stop} {w : List ℕ} {s : State} (c : Contest t stop w s) where
-  -- What is no rival is no choice.
-  pub rivals-all : (i : ℕ) → has (stop .rivals) i ≡ false → isChoice (problemIn t) s (key (problemIn t) s) i ≡ false
-  rivals-all i n =
-      by-bool (isChoice (problemIn t) s (key (problemIn t) s) i)
-      (λ y. true-not-false (c .choices i (chosen.low fit (c .base) (c .on) (c .at) i y) ∙ y) n)
-      (λ y. y)
-
-  module _ (i : ℕ) (rival : has (stop .rivals) i ≡ true) where
-    pub rival-low : i < most
-    rival-low = member-below most (stop .rivals) i (c .low) rival
-
-    pub rival-choice : isChoice (problemIn t) s (key (problemIn t) s) i ≡ true
-    rival-choice = sym (c .choices i rival-low) ∙ rival
-
-    pub rival-left : has (stop .line .left) i ≡ true
-    rival-left = chosen.member fit (c .base) (c .on) (c .at) i rival-choice
-
-    rival-on : resourceAt t i ≡ key (problemIn t) s % packing
-    rival-on =
-        sym (resource-at t i (omega (arith, rival-low)))
-        ∙ choice-parts (problemIn t) s (key (problemIn t) s) i rival-choice .1
-
-  pub rivals-together : (i k : ℕ) → has (stop .rivals) i ≡ true → has (stop .rivals) k ≡ true
-      → resourceAt t i ≡ resourceAt t k
-  rivals-together i k h h′ = rival-on i h ∙ sym (rival-on k h′)
-
-  -- One of the rivals is frozen, and another is left on the resource.
-  pub crowd-fewer : (j : ℕ) → has (stop .rivals) j ≡ true
-      → crowd t (stop .line .left) ≡ suc (crowd t (stop .line .left - 2 ^ j))
-  crowd-fewer j h =
-      let left = stop .line .left in
-      let (k, low, m) =
-      has-some most (stop .rivals - 2 ^ j) (omega (arith, c .low))
-      (λ z. omega (arith, z, two-left (stop .rivals) (c .low) (c .two) j h)) in
-      let rival : has (stop .rivals) k ≡ true = stays (stop .rivals) j h k m in
-      let met : meet (onAt t (resourceAt t j)) (left - 2 ^ j) ≡ true =
-      meet-of (onAt t (resourceAt t j)) (left - 2 ^ j) k
-      (fit .grouped .on (resourceAt t j) k (omega arith) low
-      ∙ eq-eqb (resourceAt t k) (resourceAt t j) (rivals-together k j rival h))
-      (still left j (rival-left j h) k (rival-left k rival) (other (stop .rivals) j h k m)) in
-      omega (
-        arith,
-        crowd-without t left j (fit .grouped) (rival-low j h) (rival-left j h),
-        cond-true {A = ℕ} 1 0 met,
-      )
-
-  pub left-some : (i : ℕ) → has (stop .rivals) i ≡ true → s .left ≢ 0
-  left-some i h z =
-      true-not-false (rival-left i h) (ap (λ (x : ℕ). has x i) (sym (c .base .is-left) ∙ z) ∙ has-none i)
-
-  -- Nothing but the rivals is left: every order of them.
-  module _ (all : stop .rivals ≡ stop .line .left) where
-    pub all-base : Base t (stop .rivals) (stop .latest) w s
-    all-base = subst (λ (x : ℕ). Base t x (stop .latest) w s) (sym all) (c .base)
-
-    pub all-lone : {r free : ℕ} (i : ℕ) → has (stop .rivals) i ≡ true → r ≡ resourceAt t i → free ≡ freeAt w r
-        → Lone t (stop .rivals) free w s
-    all-lone i rival on free-is =
-        record {
-          together = rivals-together;
-          opened = λ k h. chosen.is-open fit (c .base) (c .on) (c .at) k (rival-choice k h);
-          stands = λ k h.
-              ap (max (readyAt w k)) (free-is ∙ ap (freeAt w) (on ∙ rivals-together i k rival h))
-              ∙ c .on .stands k (chosen.there fit (c .base) (c .on) (c .at) k (rival-choice k h)) (rival-left k h);
-          before = λ k m h h′.
-              omega (
-                arith,
-                chosen.starts-before fit (c .base) (c .on) (c .at) k (rival-choice k h),
-                chosen.ends-after fit (c .base) (c .on) (c .at) m (rival-choice m h′),
-              );
-        }
-
--- The search below changes ends of what is left alone.
-pub beside-alone : {t : List ℕ} {l : Line} {left : ℕ} {w w′ : List ℕ} → left ≡ l .left → EndsAlone t left w w′
-    → BesideLine t l w w′
-beside-alone {l = l} e a =
+-- Above the cap nothing is done.
+pub passed : (t b : List ℕ) → Instance t → (l : Line) (w cells area : List ℕ) → (d : Diagram) × Position t l w d
+    → IsTally cells
+    → capOf t < tallyOf cells .count
+    → Explored t b l (keptOf cells area) w w cells area
+passed t b given l w cells area at tally over =
     record {
-      timed = a .timed;
-      ends = λ i b n.
-          a .same i (λ j m h q. true-not-false h (ap₂ has e (sym q) ∙ n));
-      ready = λ i b h. a .same (readyFrom + i) (λ j m h q. absurd (omega arith));
-      free = λ r b. a .same (freeFrom + r) (λ j m h q. absurd (omega arith));
+      beside = beside-itself t l w (at .1 .sets .timed);
+      tally = tally;
+      seen =
+          λ d _.
+          let (rows, all) =
+          some-rows (projectIn t) (ownOf t) (d .frozen) (d .starts) mark (scannable t given .sound) in
+          record { rows = rows; all = all; kept = sym (stopped t b (keptOf cells area) rows over) };
     }
 
--- ---- the loop over the rivals
+pub explored-same : {t b : List ℕ} {l : Line} {k : Kept} {w w₁ w₂ cells₁ cells₂ area₁ area₂ : List ℕ}
+    → Explored t b l k w w₁ cells₁ area₁
+    → w₂ ≡ w₁
+    → cells₂ ≡ cells₁
+    → area₂ ≡ area₁
+    → Explored t b l k w w₂ cells₂ area₂
+explored-same done p q r = rw p (rw q (rw r done))
 
--- What the loop keeps: all that the search below the line keeps, but for when the contested resource is free.
-pub record BesideBut (t : List ℕ) (l : Line) (r : ℕ) (w w′ : List ℕ) : Type 0 where
-  pub timed : Timed t w′
-  pub ends : (i : ℕ) → i < most → has (l .left) i ≡ false → endAt w′ i ≡ endAt w i
-  pub ready : (i : ℕ) → i < most → has (l .placed) i ≡ true → readyAt w′ i ≡ readyAt w i
-  pub free : (q : ℕ) → q < mostResources → q ≢ r → freeAt w′ q ≡ freeAt w q
+-- The line that is reached, with the conflict activities.
+abbrev pub rivalling : Reached → ℕ → Reached
+rivalling r rivals = record { line = r .line; latest = r .latest; many = r .many; rivals = rivals }
 
-pub but-refl : (t : List ℕ) (l : Line) (r : ℕ) (w : List ℕ) → Timed t w → BesideBut t l r w w
-but-refl t l r w timed =
-    record { timed = timed; ends = λ i b n. refl; ready = λ i b h. refl; free = λ q b ne. refl }
+module _ {t : List ℕ} (given : Instance t) {l : Line} {w w′ : List ℕ} {r : Reached}
+    (advances : Advances t l w w′ r) (start : (d : Diagram) × Position t l w d) where
+  -- What is explored from there is all.
+  pub explored-on : {b : List ℕ} {k : Kept} {w″ cells area : List ℕ} → Explored t b (r .line) k w′ w″ cells area
+      → Explored t b l k w w″ cells area
+  explored-on {w″ = w″} done =
+      record {
+        beside = beside-on t l (r .line) w w′ w″ (advances .fewer) (advances .more) (advances .beside) (done .beside);
+        tally = done .tally;
+        seen =
+            λ d at.
+            let on = advances .leads d at in
+            let found = done .seen (on .to) (on .position) in
+            record { rows = found .rows; all = on .same (found .rows) (found .all); kept = found .kept };
+      }
 
--- The resource is given back.
-pub but-back : {t : List ℕ} {l : Line} {r free : ℕ} {w w′ : List ℕ} → r < mostResources → free ≡ freeAt w r
-    → Timed t w → BesideBut t l r w w′ → BesideLine t l w (set w′ (freeFrom + r) free)
-but-back {t} {r = r} {free} {w} {w′} low is timed b =
-    record {
-      timed = timed-store t w′ (freeFrom + r) free (omega (arith, is, timed .times (freeFrom + r))) (b .timed);
-      ends = λ i h n. getD-set-other w′ (freeFrom + r) i free 0 (λ e. omega (arith, e)) ∙ b .ends i h n;
-      ready = λ i h y.
-          getD-set-other w′ (freeFrom + r) (readyFrom + i) free 0 (λ e. omega (arith, e)) ∙ b .ready i h y;
-      free = λ q h.
-          by-cases (ℕ-discrete q r)
-          (λ e.
-          ap (freeAt (set w′ (freeFrom + r) free)) e
-          ∙ getD-set-same w′ (freeFrom + r) free 0 (omega (arith, b .timed .size))
-          ∙ is ∙ ap (freeAt w) (sym e))
-          (λ ne.
-          getD-set-other w′ (freeFrom + r) (freeFrom + q) free 0 (λ e. ne (omega (arith, e))) ∙ b .free q h ne);
-    }
+  pub reached : (d : Diagram) × Position t (r .line) w′ d
+  reached = let on = advances .leads (start .0) (start .1) in (on .to, on .position)
 
--- The end of the rival j is stored, as it comes with the resource free as it was.
-pub record Resolves (t : List ℕ) (stop : Stop) (r free : ℕ) (w w′ w₁ : List ℕ) (j end : ℕ) : Type 0 where
-  pub timed : Timed t w
-  pub free-is : free ≡ freeAt w r
-  pub on : r ≡ resourceAt t j
-  pub rival : has (stop .rivals) j ≡ true
-  pub kept : BesideBut t (stop .line) r w w′
-  pub end-is : end ≡ max (readyAt w′ j) free + durationAt t j
-  pub stored : w₁ ≡ set (set w′ j end) (freeFrom + resourceAt t j) end
+  pub no-more : size (r .line .left) most ≤ size (l .left) most
+  no-more = size-sub most (r .line .left) (l .left) (advances .fewer)
 
--- The search goes on below.
-module _ {t : List ℕ} (fit : Fit t) {stop : Stop} {r free : ℕ} {w w′ w₁ : List ℕ} {j end : ℕ}
-    (h : Resolves t stop r free w w′ w₁ j end) {s : State} (c : Contest t stop w s) where
-  choice : isChoice (problemIn t) s (key (problemIn t) s) j ≡ true
-  choice = rival-choice fit c j (h .rival)
+  pub nothing-contested : r .rivals ≡ 0 → Uncontested t (r .line .left)
+  nothing-contested none =
+      uncontested t (r .line .left) (reached .1 .sets .left-low) (sym (advances .many) ∙ advances .settled none)
 
-  stop-is : end ≡ finish (problemIn t) s j
-  stop-is =
-      h .end-is
-      ∙ ap₂ (λ (x y : ℕ). max x y + durationAt t j)
-      (h .kept .ready j (rival-low fit c j (h .rival)) (chosen.there fit (c .base) (c .on) (c .at) j choice))
-      (h .free-is ∙ ap (freeAt w) (h .on))
-      ∙ chosen.stop-is fit (c .base) (c .on) (c .at) j choice
+  module _ (some : 0 < r .rivals) where
+    due : has (r .line .due) (lowestOf (r .line .due)) ≡ true
+    due =
+        lowest-has (r .line .due) (lowestOf (r .line .due)) (reached .1 .sets .due-low)
+        (λ e. omega (arith, advances .here some .0, e)) refl
 
-  stop-early : end ≤ latestPossible
-  stop-early =
-      omega (
-        arith,
-        stop-is,
-        finish-early fit (c .base) j (chosen.is-open fit (c .base) (c .on) (c .at) j choice),
-      )
+    abbrev first : ℕ
+    first = lowestOf (r .line .due)
 
-  pub stored-timed : Timed t w₁
-  stored-timed =
-      subst (Timed t) (sym (h .stored))
-      (timed-store t (set w′ j end) (freeFrom + resourceAt t j) end stop-early
-      (timed-store t w′ j end stop-early (h .kept .timed)))
+    pub first-low : lowestOf (r .line .due) < most
+    first-low = omega (arith, acts-c t given (r .line) w′ (reached .0) (reached .1) first due, given .laid .acts)
 
-  -- The loop's array with the resource given back, at which the line stands as before.
-  abbrev back : List ℕ
-  back = set w′ (freeFrom + r) free
+    pub rivals-low : r .rivals < 2 ^ most
+    rivals-low = omega (arith, advances .here some .1, here-low t (given .laid) (r .line) first-low)
 
-  back-kept : BesideLine t (stop .line) w back
-  back-kept = but-back (omega (arith, h .on)) (h .free-is) (h .timed) (h .kept)
-
-  back-base : Base t (stop .line .left) (stop .latest) back s
-  back-base = base-same (back-kept .ends) (c .base)
-
-  back-line : OnLine t (stop .line) back s
-  back-line = line-kept back-kept (c .on)
-
-  stored-back : set (set back j end) (freeFrom + resourceAt t j) end ≡ w₁
-  stored-back =
-      ap (λ (x : ℕ). set (set (set w′ (freeFrom + x) free) j end) (freeFrom + resourceAt t j) end) (h .on)
-      ∙ ap (λ (x : List ℕ). set x (freeFrom + resourceAt t j) end)
-      (set-comm w′ (freeFrom + resourceAt t j) j free end (λ e. omega (arith, e, rival-low fit c j (h .rival))))
-      ∙ set-set (set w′ j end) (freeFrom + resourceAt t j) free end
-      ∙ sym (h .stored)
-
-  stores : Stores t (stop .line) back w₁ j (finish (problemIn t) s j)
-  stores =
-      subst (λ (x : List ℕ). Stores t (stop .line) back x j (finish (problemIn t) s j)) stored-back
-      (chosen.stores-choice fit back-base back-line (c .at) j choice (back-kept .timed) stop-is)
-
-  module _ {fewer : ℕ} (one : fewer ≡ stop .line .left - 2 ^ j) where
-    pub below-base : {last : ℕ} → last ≡ max (stop .latest) end
-        → Base t fewer last w₁ (freeze (problemIn t) s j)
-    below-base {last} is =
-        subst (λ (x : ℕ). Base t x last w₁ (freeze (problemIn t) s j)) (sym one)
-        (chosen.chosen-base fit back-base back-line (c .at) j choice stores (is ∙ ap (max (stop .latest)) stop-is))
-
-    pub below-line :
-        let l = stop .line in
-        OnLine t (record { tick = l .tick; placed = l .placed; left = fewer; term = l .term }) w₁
-        (freeze (problemIn t) s j)
-    below-line =
-        let l = stop .line in
-        subst
-        (λ (x : ℕ).
-        OnLine t (record { tick = l .tick; placed = l .placed; left = x; term = l .term }) w₁
-        (freeze (problemIn t) s j))
-        (sym one) (chosen.chosen-line fit back-base back-line (c .at) j choice stores)
-
-    -- The rival is selected in Step 3.
-    pub below-run : {present : ℕ} → Run t present (stop .line) w
-        → (stop .rivals ≡ hereIn t (stop .line) (leastAt t w (unfrozenIn (stop .line))))
-        × (stop .line .tick ≡ leastAt t w (unfrozenIn (stop .line)) / packing)
-        → let l = stop .line in
-        Run t present (record { tick = l .tick; placed = l .placed; left = fewer; term = l .term }) w₁
-    below-run {present} run (are, on-line) =
-        let l = stop .line in
-        let is : end ≡ finishAt t back j = stop-is ∙ sym (chosen.stop-is fit back-base back-line (c .at) j choice) in
-        subst₂
-        (λ (x : ℕ) (y : List ℕ).
-        Run t present (record { tick = l .tick; placed = l .placed; left = x; term = l .term }) y)
-        (sym one)
-        (ap (λ (x : ℕ). set (set back j x) (freeFrom + resourceAt t j) x) (sym is) ∙ stored-back)
-        (selects j (forgets run back-kept) (least-kept back-kept) on-line
-        (subst (λ (x : ℕ). 0 < afterLowest x) are (c .two))
-        (ap (λ (x : ℕ). has x j) (sym are) ∙ h .rival))
-
-    -- Nothing is contested below where this was all.
-    pub below-apart : crowd t (stop .line .left) ≡ 1 → Uncontested t fewer
-    below-apart last =
-        crowd-none t fewer (fit .grouped) (omega (arith, one, c .base .inside))
-        (omega (arith, last, crowd-fewer fit c j (h .rival), ap (crowd t) one))
-
-    -- What the search below keeps, the loop keeps.
-    pub below-kept : {next : Line} {w₂ : List ℕ} → next .left ≡ fewer → next .placed ≡ stop .line .placed
-        → BesideLine t next w₁ w₂ → BesideBut t (stop .line) r w w₂
-    below-kept {next} {w₂} left-is placed-is b =
+    -- Two of the component can run together.
+    pub contest-roomy : {rivals : ℕ} → has (tightOf t) (lowestOf (r .line .due)) ≡ false
+        → InConflict w′ (r .line) (r .rivals) rivals
+        → Contest t w′ (rivalling r rivals)
+    contest-roomy {rivals} roomy conflict =
         record {
-          timed = b .timed;
-          ends = λ i m n.
-              b .ends i m (ap (λ (x : ℕ). has x i) (left-is ∙ one)
-              ∙ gone-of (stop .line .left) j (rival-left fit c j (h .rival)) i n)
-              ∙ ap (λ (x : List ℕ). endAt x i) (h .stored)
-              ∙ getD-set-other (set w′ j end) (freeFrom + resourceAt t j) i end 0 (λ e. omega (arith, e))
-              ∙ getD-set-other w′ j i end 0
-              (λ e. true-not-false (rival-left fit c j (h .rival)) (sym (ap (has (stop .line .left)) e) ∙ n))
-              ∙ h .kept .ends i m n;
-          ready = λ i m y.
-              b .ready i m (ap (λ (x : ℕ). has x i) placed-is ∙ y)
-              ∙ ap (λ (x : List ℕ). readyAt x i) (h .stored)
-              ∙ getD-set-other (set w′ j end) (freeFrom + resourceAt t j) (readyFrom + i) end 0
-              (λ e. omega (arith, e))
-              ∙ getD-set-other w′ j (readyFrom + i) end 0 (λ e. omega (arith, e, rival-low fit c j (h .rival)))
-              ∙ h .kept .ready i m y;
-          free = λ q m ne.
-              b .free q m
-              ∙ ap (λ (x : List ℕ). freeAt x q) (h .stored)
-              ∙ getD-set-other (set w′ j end) (freeFrom + resourceAt t j) (freeFrom + q) end 0
-              (λ e. ne (omega (arith, e, h .on)))
-              ∙ getD-set-other w′ j (freeFrom + q) end 0 (λ e. omega (arith, e, rival-low fit c j (h .rival)))
-              ∙ h .kept .free q m ne;
+          due = advances .here some .0;
+          tight = λ y. true-not-false y roomy;
+          roomy = λ z. subst (λ (x : ℕ). InConflict w′ (r .line) x rivals) (advances .here some .1) conflict;
+          many = advances .many;
+          last = advances .last;
+          some = reached;
         }
+
+    -- No two of it can, so none has been passed.
+    several : has (tightOf t) (lowestOf (r .line .due)) ≡ true → 0 < afterLowest (r .rivals)
+    several tight =
+        by-cases (ℕ-discrete (afterLowest (r .rivals)) 0)
+        (λ e.
+        let (i, _, here, passed) = meet-at most (r .rivals) (r .line .passed) rivals-low (advances .several some e) in
+        let (loose, own) =
+        here-is t given (r .line) w′ (reached .0) (reached .1) first due i
+        (ap (λ (x : ℕ). has x i) (sym (advances .here some .1)) ∙ here) in
+        true-not-false passed (tight-free given (reached .1) due i loose own tight))
+        (λ ne. omega (arith, ne))
+
+    pub contest-tight : has (tightOf t) (lowestOf (r .line .due)) ≡ true → Contest t w′ r
+    contest-tight tight =
+        record {
+          due = advances .here some .0;
+          tight = λ y. (advances .here some .1, several tight);
+          roomy = λ z. true-not-false tight z;
+          many = advances .many;
+          last = advances .last;
+          some = reached;
+        }
+
+-- A contest of all that is left, where no two of the component can run together.
+module _ {t : List ℕ} (given : Instance t) {r : Reached} {w : List ℕ} (contest : Contest t w r)
+    (all : r .rivals ≡ r .line .left) (tight : has (tightOf t) (lowestOf (r .line .due)) ≡ true) {free : ℕ}
+    (free-is : free ≡ freeAt w (lowestOf (r .line .due))) where
+  abbrev c : ℕ
+  c = lowestOf (r .line .due)
+
+  in-conflict : (i : ℕ) → has (r .line .left) i ≡ true → has (r .rivals) i ≡ true
+  in-conflict i y = ap (λ (x : ℕ). has x i) all ∙ y
+
+  is-tight : (i : ℕ) → has (r .line .left) i ≡ true → has (tightOf t) i ≡ true
+  is-tight i y = rival-tight given contest i (in-conflict i y) tight
+
+  own : (i : ℕ) → has (r .line .left) i ≡ true → ownAt t i ≡ c
+  own i y =
+      choosing given contest i (in-conflict i y)
+      (beside-itself t (r .line) w (contest .some .1 .sets .timed)) .on
+
+  placed : (i : ℕ) → has (r .line .left) i ≡ true → has (r .line .placed) i ≡ true
+  placed i y = loose-is (r .line) i (rival-loose given contest i (in-conflict i y)) .0
+
+  early : (i : ℕ) → has (r .line .left) i ≡ true → soonAt t w i < r .line .tick
+  early i y = rival-early given contest i (in-conflict i y)
+
+  pub orders-lone : Lone t (r .rivals) free (r .latest) w (contest .some .0 .frozen) (contest .some .0 .starts)
+  orders-lone =
+      rw all
+      (rw free-is
+      (lone-of t given (r .line) w c (r .latest) placed is-tight own early (contest .last) (contest .some .0)
+      (contest .some .1)))
+
+  pub orders-explored : {b : List ℕ} {k : Kept} {w′ cells area : List ℕ}
+      → Ordered t b (r .rivals) free (r .latest) k w w′ cells area
+      → Explored t b (r .line) k w w′ cells area
+  orders-explored {b} {k} {w′} {cells} {area} done =
+      explored-of t given (r .line) w c (r .latest) placed is-tight own early (contest .last)
+      (subst (λ (x : ℕ). Ordered t b (r .line .left) x (r .latest) k w w′ cells area) free-is
+      (subst (λ (x : ℕ). Ordered t b x free (r .latest) k w w′ cells area) all done))

@@ -1,6 +1,9 @@
--- What the proofs of the search share: the branches of a state, what is left on one resource, the choices at a stop, and
--- the root.
+-- The branches of the search.
+pub mod Choosing
+pub mod Going
+pub mod Chosen
+pub mod Last
+pub mod Rivals
 pub mod Branches
-pub mod Lone
 pub mod Descended
 pub mod Entry

@@ -1,2 +1,3 @@
 -- What the search's contracts say.
-pub mod Lone
+pub mod Choice
+pub mod Branch

@@ -12,9 +12,9 @@ use native.Mathlib.Omega.{arith}
 use lib.Dec.{lit<, eqb, eqb·suc-suc, eqb·zero-suc, eqb·suc-zero}
 use lib.Arith.{lt-one, digits-div, digits-mod}
 use lib.Pow.{pow-lt, pow-mono}
-use lib.Bits.{bitAnd, bitOr, bitXor, and-comm, differ, and-step, or-step, xor-step, and-le-l, and-le-r, xor-add-and}
+use lib.Bits.{bitAnd, bitOr, bitXor, differ, and-step, or-step, xor-step, and-le-l, and-le-r, xor-lt, xor-add-and}
 use borrow.Author.Tests.{eq-eqb, ne-eqb, eqb-true, eqb-false, not-true}
-use Rattle.sets.specs.Sets.{has, meet, size}
+use Rattle.sets.specs.Sets.{most, has, meet, size}
 
 -- ---- bits, lowest first
 
@@ -177,11 +177,10 @@ meet-none n a b p f = go (meet a b) refl
     go true e = let m = meet-at n a b p e in absurd (f (m .0) (m .1) (m .2) (m .3))
     go false e = e
 
-pub meet-comm : (a b : ℕ) → meet a b ≡ meet b a
-unfolding meet
-meet-comm a b = ap (λ (x : ℕ). not (eqb x 0)) (and-comm a b)
-
 -- ---- subsets
+
+pub minus-low : (a b : ℕ) → a < 2 ^ most → bitXor a (bitAnd a b) < 2 ^ most
+minus-low a b h = xor-lt most a (bitAnd a b) h (lt-of-le-of-lt (and-le-l a b) h)
 
 -- ---- a member added or taken out
 
@@ -240,11 +239,6 @@ size-same (suc n) a b f =
     ap₂ (λ (x : Bool) (y : ℕ). elim x [ true ↦ 1 | false ↦ 0 ] + y) (f n (le-refl (suc n)))
     (size-same n a b (λ i h. f i (lt-of-lt-of-le h (le-suc n))))
 
-pub size-none : (n : ℕ) → size 0 n ≡ 0
-unfolding size
-size-none zero = refl
-size-none (suc n) = ap₂ (λ (x : Bool) (y : ℕ). elim x [ true ↦ 1 | false ↦ 0 ] + y) (has-none n) (size-none n)
-
 pub size-le : (n a : ℕ) → size a n ≤ n
 unfolding size
 size-le zero a = le-refl 0
@@ -286,17 +280,3 @@ size-sub (suc n) a b f = omega (arith, at-most (has a n) (has b n) (f n), size-s
     at-most true true g = omega arith
     at-most true false g = absurd (true≢false (sym (g refl)))
     at-most false y g = omega arith
-
--- A proper subset has fewer.
-pub size-less : (n a b i : ℕ) → i < n → ((j : ℕ) → has a j ≡ true → has b j ≡ true) → has a i ≡ false → has b i ≡ true
-    → size a n < size b n
-size-less n a b i l f none there =
-    omega (
-      arith,
-      size-without n b i l there,
-      size-sub n a (b - 2 ^ i)
-          (λ j h.
-          has-without b i j there
-          ∙ ap₂ (λ (x y : Bool). x && not y) (f j h)
-          (ne-eqb j i (λ e. true≢false (sym h ∙ ap (has a) e ∙ none)))),
-    )

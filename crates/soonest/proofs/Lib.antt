@@ -1,4 +1,3 @@
--- The loops of the test.
-pub mod Passed
-pub mod Clashes
+-- The loops of the test, and the row of the schedule.
+pub mod Row
 pub mod Waits

@@ -1,113 +1,70 @@
--- The search for a sooner tick: it goes from the end of one clash to the end of another, and nothing fits between.
+-- The search for a sooner tick: it goes from the end of one that is in the way to that of another, and nothing fits
+-- between.
 use Prim.Native.Nat.{ℕ, _+_, _≤_, _<_}
 use native.Mathlib.Decide.{decLt}
 use native.Mathlib.Omega.{arith}
-use mathlib.Core.Bool.{Bool, true, false, not, _&&_}
+use mathlib.Core.Bool.{true, false}
 use mathlib.Core.List.{List}
 use mathlib.Core.Logic.{by-cases}
-use mathlib.Core.Path.{_≡_, ap}
-use lib.Dec.{leb, ltb}
-use lib.ListN.{getD}
-use borrow.Author.Tests.{ltb-true, leb-true, lt-ltb, le-leb, lt-leb}
-use Rattle.base.proofs.Bools.{by-bool, true-not-false, both, and-left, and-right}
-use Rattle.base.proofs.Below.{every-at, every-of, implies-elim, implies-intro, max-chosen}
-use Rattle.base.specs.Below.{everyBelow, _implies_}
+use mathlib.Core.Path.{_≡_, refl}
+use Rattle.base.proofs.Bools.{true-not-false}
+use Rattle.base.proofs.Below.{max-chosen}
 use Rattle.plan.specs.Limits.{latestPossible}
 use Rattle.sets.specs.Sets.{most, has}
-use Rattle.scan.specs.Model.{Problem}
-use Rattle.scan.specs.Union.{fits, over, isSoonest}
-use Rattle.soonest.specs.Clash.{Clash}
-use Rattle.soonest.proofs.Clashes.{clash-after, clash-until, fits-not}
+use Rattle.instance.specs.Table.{durationAt}
+use Rattle.profile.specs.Work.{endAt, latestOf, Timed}
+use Rattle.profile.specs.Room.{FitsAt, Blocked}
+use Rattle.soonest.specs.Soonest.{othersOf, IsSoonest}
 
-module _ (q : Problem) (ends : List ℕ) (before j : ℕ) where
-  abbrev first : ℕ
-  first = over q ends before
+pub latest-early : (w : List ℕ) (set : ℕ) → Timed w → latestOf w set ≤ latestPossible
+latest-early w set timed = max-chosen most (has set) (endAt w) latestPossible (λ k l. timed .times k)
 
-  abbrev tested : ℕ → Bool
-  tested t = (leb first t && ltb (t + q .duration j) (getD ends j 0)) implies not (fits q ends j t)
+-- j starts late enough, and fits on no tick before x.
+pub record Waits (t w : List ℕ) (before j x : ℕ) : Type 0 where
+  pub from : latestOf w before ≤ x
+  pub fair : latestOf w before + durationAt t j ≤ endAt w j
+  pub none : (u : ℕ) → latestOf w before ≤ u → u < x → FitsAt t w (othersOf t j) j u → ⊥
+  pub low : x ≤ latestPossible
 
-  pub over-early : ((k : ℕ) → getD ends k 0 ≤ latestPossible) → over q ends before ≤ latestPossible
-  over-early times = max-chosen most (has before) (λ k. getD ends k 0) latestPossible (λ k l. times k)
-
--- j starts late enough, and fits on no tick before t.
-pub record Waits (q : Problem) (ends : List ℕ) (before j t : ℕ) : Type 0 where
-  pub from : over q ends before ≤ t
-  pub fair : over q ends before + q .duration j ≤ getD ends j 0
-  pub none : (u : ℕ) → over q ends before ≤ u → u < t → fits q ends j u ≡ false
-  pub low : t ≤ latestPossible
-
-module _ (q : Problem) (ends : List ℕ) (before j t : ℕ) where
-  pub waits-none : ((k : ℕ) → getD ends k 0 ≤ latestPossible) → t ≡ over q ends before
-      → t + q .duration j ≤ getD ends j 0
-      → Waits q ends before j t
-  waits-none times e h =
+module _ (t w : List ℕ) (before j x : ℕ) where
+  pub waits-none : Timed w → x ≡ latestOf w before → x + durationAt t j ≤ endAt w j → Waits t w before j x
+  waits-none timed e h =
       record {
         from = omega arith;
         fair = omega arith;
         none = λ u a b. absurd (omega arith);
-        low = omega (arith, over-early q ends before j times);
+        low = omega (arith, latest-early w before timed);
       }
 
   -- j would start before the others have ended.
-  pub soonest-never : t ≡ over q ends before → getD ends j 0 < t + q .duration j → isSoonest q ends before j ≡ false
-  unfolding isSoonest
+  pub soonest-never : x ≡ latestOf w before → endAt w j < x + durationAt t j → IsSoonest t w before j false
   soonest-never e h =
-      ap (λ (b : Bool). b && everyBelow (getD ends j 0) (tested q ends before j))
-      (lt-leb (over q ends before + q .duration j) (getD ends j 0) (omega arith))
+      record { holds = λ y. true-not-false y refl; fails = λ z s. omega (arith, s .ready) }
 
-  module _ (so-far : Waits q ends before j t) where
-    module _ (r : ℕ) (clash : Clash q ends j t r) where
-      pub clash-later : 0 < r → t < r
-      clash-later h = let (k, l, y, e) = clash .some h in omega (arith, clash-after q ends j k t y)
-
-      pub waits-more : ((k : ℕ) → getD ends k 0 ≤ latestPossible) → 0 < r → Waits q ends before j r
-      waits-more times h =
-          let (k, l, y, e) = clash .some h in
+  module _ (so-far : Waits t w before j x) where
+    module _ (r : ℕ) (blocked : Blocked t w (othersOf t j) j x r) where
+      pub waits-more : Timed w → (r ≡ 0 → ⊥) → Waits t w before j r
+      waits-more timed some =
+          let (k, y, e) = blocked .end some in
           record {
-            from = omega (arith, so-far .from, clash-later h);
+            from = omega (arith, so-far .from, blocked .later some);
             fair = so-far .fair;
             none = λ u a b.
-                by-cases
-                (decLt u t)
-                (so-far .none u a)
-                (λ n. fits-not q ends j u k l (clash-until q ends j k t y u (omega arith) (omega arith)));
-            low = omega (arith, times k);
+                by-cases (decLt u x) (so-far .none u a) (λ n. blocked .none u (omega arith) b);
+            low = omega (arith, timed .times k);
           }
 
       -- j fits sooner.
-      pub soonest-not : r ≡ 0 → t + q .duration j < getD ends j 0 → isSoonest q ends before j ≡ false
-      unfolding isSoonest
+      pub soonest-not : r ≡ 0 → x + durationAt t j < endAt w j → IsSoonest t w before j false
       soonest-not z h =
-          by-bool
-          (isSoonest q ends before j)
-          (λ y.
-          true-not-false
-          (implies-elim (leb (first q ends before j) t && ltb (t + q .duration j) (getD ends j 0))
-          (not (fits q ends j t))
-          (every-at (getD ends j 0) (tested q ends before j)
-          (and-right (leb (first q ends before j + q .duration j) (getD ends j 0))
-          (everyBelow (getD ends j 0) (tested q ends before j)) y)
-          t
-          (omega arith))
-          (both (le-leb (first q ends before j) t (so-far .from)) (lt-ltb (t + q .duration j) (getD ends j 0) h)))
-          (ap not (clash .none z)))
-          (λ n. n)
+          record {
+            holds = λ y. true-not-false y refl;
+            fails = λ n s. s .none x (so-far .from) h (blocked .fits z);
+          }
 
-    pub soonest-is : getD ends j 0 ≤ t + q .duration j → isSoonest q ends before j ≡ true
-    unfolding isSoonest
+    pub soonest-is : endAt w j ≤ x + durationAt t j → IsSoonest t w before j true
     soonest-is h =
-        both
-        (le-leb (first q ends before j + q .duration j) (getD ends j 0) (so-far .fair))
-        (every-of (getD ends j 0) (tested q ends before j)
-        λ u l.
-        implies-intro (leb (first q ends before j) u && ltb (u + q .duration j) (getD ends j 0)) (not (fits q ends j u))
-        λ y.
-        ap not
-        (so-far .none u
-        (leb-true (first q ends before j) u
-        (and-left (leb (first q ends before j) u) (ltb (u + q .duration j) (getD ends j 0)) y))
-        (omega (
-          arith,
-          ltb-true (u + q .duration j) (getD ends j 0)
-              (and-right (leb (first q ends before j) u) (ltb (u + q .duration j) (getD ends j 0)) y),
-        ))))
+        record {
+          holds = λ y. record { ready = so-far .fair; none = λ u a b. so-far .none u a (omega arith) };
+          fails = λ z. true-not-false refl z;
+        }

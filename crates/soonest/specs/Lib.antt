@@ -1,2 +1,3 @@
--- What the test of a schedule by another order says.
-pub mod Clash
+-- The schedule that is tested, and what the test by another order says.
+pub mod Row
+pub mod Soonest

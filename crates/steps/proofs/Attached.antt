@@ -18,10 +18,10 @@ use Rattle.schedule.specs.Schedule.{endOf}
 use Rattle.schedule.proofs.Load.{Has}
 use Rattle.branching.proofs.Fit.{FitsOn}
 use Rattle.scan.specs.Scan.{Diagram}
-use Rattle.unit_scan.specs.Scan.{some, readyTick, hasRoom, isWaiting, canAttach, attach, isNext, isAhead}
-use Rattle.unit_scan_exact.proofs.Rooms.{has-room, room-has, ready-least}
-use Rattle.unit_scan_exact.proofs.Standing.{Standing}
-use Rattle.unit_scan_exact.proofs.Attached.{Gone, some-of, some-not, some-none, attach-kept}
+use Rattle.scan.specs.Scan.{some, readyTick, hasRoom, isWaiting, canAttach, attach, isNext, isAhead}
+use Rattle.scan_exact.proofs.Rooms.{has-room, room-has, ready-least}
+use Rattle.scan_exact.proofs.Standing.{Standing}
+use Rattle.scan_exact.proofs.Attached.{Gone, some-of, some-not, some-none, attach-kept}
 use Rattle.instance.specs.Instance.{ownOf, Instance}
 use Rattle.instance.proofs.Own.{own-is}
 use Rattle.instance.specs.Table.{actsOf, durationAt, predsAt, componentAt, ownAt, tightOf, projectIn}
@@ -94,14 +94,16 @@ module _ (t : List ℕ) (given : Instance t) (l : Line) (w : List ℕ) (d : Diag
       (λ gt. true-not-false (standing .running k f (omega (arith, gt))) out))
 
   -- The frozen ones of its component that are in T.
-  covers : (i : ℕ) → i < actsOf t → Covers t given d (d .tick) standing w shown-end (bitAnd (runningIn l) (componentAt t i)) i (d .tick)
+  covers : (i : ℕ) → i < actsOf t
+      → Covers t given d (d .tick) standing w shown-end (bitAnd (runningIn l) (componentAt t i)) i (d .tick)
   unfolding projectIn
   covers i b =
       record {
         inside =
             λ k y.
             running-frozen t given l w d shows (d .tick) standing k
-            (and-left (has (runningIn l) k) (has (componentAt t i) k) (sym (has-and (runningIn l) (componentAt t i) k) ∙ y));
+            (and-left (has (runningIn l) k) (has (componentAt t i) k)
+            (sym (has-and (runningIn l) (componentAt t i) k) ∙ y));
         all =
             λ k f on from to.
             has-and (runningIn l) (componentAt t i) k
@@ -117,9 +119,11 @@ module _ (t : List ℕ) (given : Instance t) (l : Line) (w : List ℕ) (d : Diag
       let (h, off, z) = waiting-there i y in
       let b : i < actsOf t = h .below in
       let own : ownAt t i ≡ ownOf t i = own-is t (given .laid) i b in
-      let to-scan : FitsOn (projectIn t) (d .frozen) (d .starts) i (d .tick) → hasRoom (projectIn t) comp d i (d .tick) ≡ true =
+      let to-scan : FitsOn (projectIn t) (d .frozen) (d .starts) i (d .tick)
+      → hasRoom (projectIn t) comp d i (d .tick) ≡ true =
       λ f. room-has (projectIn t) comp d i (d .tick) f in
-      let of-scan : hasRoom (projectIn t) comp d i (d .tick) ≡ true → FitsOn (projectIn t) (d .frozen) (d .starts) i (d .tick) =
+      let of-scan : hasRoom (projectIn t) comp d i (d .tick) ≡ true
+      → FitsOn (projectIn t) (d .frozen) (d .starts) i (d .tick) =
       λ f. has-room (projectIn t) comp d i (d .tick) f in
       by-bool (has (tightOf t) i)
       (λ tight.
@@ -168,9 +172,15 @@ module _ (t : List ℕ) (given : Instance t) (l : Line) (w : List ℕ) (d : Diag
       cond-false (leb (freeAt w (ownAt t i)) (l .tick))
       (hasRoomAt t w (bitAnd (runningIn l) (componentAt t i)) i (l .tick)) roomy
       ∙ ap (hasRoomAt t w (bitAnd (runningIn l) (componentAt t i)) i) (sym (shows .tick))
-      ∙ same-bool (hasRoomAt t w (bitAnd (runningIn l) (componentAt t i)) i (d .tick)) (hasRoom (projectIn t) comp d i (d .tick))
-      (λ y. to-scan (room-fits t given d (d .tick) standing w shown-end (bitAnd (runningIn l) (componentAt t i)) i (d .tick) h (covers i b) y))
-      (λ y. fits-room t given d (d .tick) standing w shown-end (bitAnd (runningIn l) (componentAt t i)) i (d .tick) h (covers i b) (of-scan y)))
+      ∙ same-bool (hasRoomAt t w (bitAnd (runningIn l) (componentAt t i)) i (d .tick))
+      (hasRoom (projectIn t) comp d i (d .tick))
+      (λ y.
+      to-scan
+      (room-fits t given d (d .tick) standing w shown-end (bitAnd (runningIn l) (componentAt t i)) i (d .tick) h
+      (covers i b) y))
+      (λ y.
+      fits-room t given d (d .tick) standing w shown-end (bitAnd (runningIn l) (componentAt t i)) i (d .tick) h
+      (covers i b) (of-scan y)))
 
   below-of : (i : ℕ) → Has (projectIn t) i → i < actsOf t
   unfolding projectIn
@@ -248,7 +258,9 @@ module _ (t : List ℕ) (given : Instance t) (l : Line) (w : List ℕ) (d : Diag
         (ap₂ (λ (x y : Bool). x || y) (has-above most (l .placed) i (sets .placed-low) (omega (arith, b)))
         (by-bool (canStart t w l i) (λ y. absurd (b (starts-below i y))) (λ z. z))))
 
-    pub by-placed : {C : Type 0} (i : ℕ) → has r i ≡ true → (has (l .placed) i ≡ true → C) → (canStart t w l i ≡ true → C) → C
+    pub by-placed : {C : Type 0} (i : ℕ) → has r i ≡ true → (has (l .placed) i ≡ true → C)
+        → (canStart t w l i ≡ true → C)
+        → C
     by-placed i y old new =
         by-bool (has (l .placed) i) old
         (λ z. new (sym (ap (λ (x : Bool). x || canStart t w l i) z) ∙ sym (placed-now i) ∙ y))
@@ -264,6 +276,9 @@ module _ (t : List ℕ) (given : Instance t) (l : Line) (w : List ℕ) (d : Diag
         by-placed i there (λ old. frozen-of l i old off)
         (λ new. true-not-false (waiting-is l i (starts-waiting i new) .0) off))
         (λ y. let (there, off) = frozen-is l i y in frozen-of next i (placed-more i there) off)
+
+    ended-same : (i : ℕ) → has (frozenIn l) i ≡ true → endAt w′ i ≡ endAt w i
+    ended-same i y = ends-same i (omega (arith, sets .placed i (frozen-is l i y .0), given .laid .acts))
 
     pub by-loose : {C : Type 0} (i : ℕ) → has (looseIn (attachedLine l r)) i ≡ true → (has (looseIn l) i ≡ true → C)
         → (canStart t w l i ≡ true → C) → C
@@ -314,7 +329,9 @@ module _ (t : List ℕ) (given : Instance t) (l : Line) (w : List ℕ) (d : Diag
         (λ k lk.
         by-bool (d .frozen k)
         (λ f.
-        ap₂ (λ (a b : ℕ). (d .frozen k && projectIn t .free k && eqb (comp k) (comp i)) implies isAhead (projectIn t) comp a k b i)
+        ap₂
+        (λ (a b : ℕ).
+        (d .frozen k && projectIn t .free k && eqb (comp k) (comp i)) implies isAhead (projectIn t) comp a k b i)
         (kept-frozen k f) (kept i y))
         (λ z. rw z))
 
@@ -331,7 +348,9 @@ module _ (t : List ℕ) (given : Instance t) (l : Line) (w : List ℕ) (d : Diag
         (and-left (d .frozen k && projectIn t .free k) (eqb (comp k) (comp i)) three) in
         let less : attach (projectIn t) comp d .starts k < attach (projectIn t) comp d .starts i =
         omega (arith, kept-frozen k f, starts-at i y, standing .before k f) in
-        ap (λ (x : Bool). x || (eqb (attach (projectIn t) comp d .starts k) (attach (projectIn t) comp d .starts i) && ltb k i))
+        ap
+        (λ (x : Bool).
+        x || (eqb (attach (projectIn t) comp d .starts k) (attach (projectIn t) comp d .starts i) && ltb k i))
         (lt-ltb (attach (projectIn t) comp d .starts k) (attach (projectIn t) comp d .starts i) less)))
 
     pub shows-attach : Shows t (attachedLine l r) w′ (attach (projectIn t) comp d)
@@ -362,8 +381,7 @@ module _ (t : List ℕ) (given : Instance t) (l : Line) (w : List ℕ) (d : Diag
           ended =
               λ i y.
               let old : has (frozenIn l) i ≡ true = sym (frozen-same i) ∙ y in
-              let b : i < most = omega (arith, sets .placed i (frozen-is l i old .0), given .laid .acts) in
-              omega (arith, kept-frozen i (shows .frozen i ∙ old), shows .ended i old, ends-same i b);
+              omega (arith, kept-frozen i (shows .frozen i ∙ old), shows .ended i old, ended-same i old);
           passed =
               λ i y.
               by-loose i y
@@ -380,19 +398,25 @@ module _ (t : List ℕ) (given : Instance t) (l : Line) (w : List ℕ) (d : Diag
           tight =
               λ i y tight.
               let old : has (frozenIn l) i ≡ true = sym (frozen-same i) ∙ y in
-              let b : i < most = omega (arith, sets .placed i (frozen-is l i old .0), given .laid .acts) in
-              ⊎-elim (λ le. inl (omega (arith, le, ends-same i b, free-same (ownAt t i))))
-              (λ le. inr (omega (arith, le, ends-same i b))) (shows .tight i old tight);
+              ⊎-elim (λ le. inl (omega (arith, le, ended-same i old, free-same (ownAt t i))))
+              (λ le. inr (omega (arith, le, ended-same i old))) (shows .tight i old tight);
           freed =
               λ i tight.
               ⊎-elim (λ none. inl (free-same (ownAt t i) ∙ none))
               (λ (k, f, same, end).
-              let b : k < most = omega (arith, sets .placed k (frozen-is l k f .0), given .laid .acts) in
-              inr (k, frozen-same k ∙ f, same, ends-same k b ∙ end ∙ sym (free-same (ownAt t i))))
+              inr (k, frozen-same k ∙ f, same, ended-same k f ∙ end ∙ sym (free-same (ownAt t i))))
               (shows .freed i tight);
           readied =
               λ i y tight.
               by-loose i y (λ old. omega (arith, ready-same i (loose-not i old), shows .readied i old tight))
               (λ new. omega (arith, attaches .start i (starts-below i new) new));
           roomy = λ i b z. free-same (ownAt t i) ∙ shows .roomy i b z;
+          live =
+              λ k y z.
+              let old : has (frozenIn l) k ≡ true = sym (frozen-same k) ∙ y in
+              ⊎-elim (λ on. inl on)
+              (λ (j, f, own, end).
+              inr (j, frozen-same j ∙ f, own, omega (arith, end, ended-same k old, ended-same j f)))
+              (shows .live k old z);
+          live-frozen = λ k y. frozen-same k ∙ shows .live-frozen k y;
         }

@@ -11,8 +11,8 @@ use Rattle.base.proofs.Bools.{by-bool}
 use Rattle.sets.specs.Sets.{most, has}
 use Rattle.sets.proofs.Laws.{has-above}
 use Rattle.scan.specs.Scan.{Diagram}
-use Rattle.unit_scan.specs.Scan.{rightEnd, delete}
-use Rattle.unit_scan_exact.proofs.Standing.{Standing}
+use Rattle.scan.specs.Scan.{rightEnd, delete}
+use Rattle.scan_exact.proofs.Standing.{Standing}
 use Rattle.instance.specs.Instance.{ownOf, Instance}
 use Rattle.instance.specs.Table.{projectIn}
 use Rattle.profile.specs.Work.{endAt}
@@ -58,7 +58,8 @@ module _ (t : List ℕ) (given : Instance t) (l : Line) (w : List ℕ) (d : Diag
       (deletes .kept i b
       ∙ ap (λ (x : Bool). x && not (has (runningIn l) i && leb (endAt w i) (l .tick))) (sym (shows .term i) ∙ z))))
       (λ b.
-      ap (λ (x : Bool). x && not (gone i)) (shows .term i ∙ has-above most (l .term) i (sets .term-low) (omega (arith, b)))
+      ap (λ (x : Bool). x && not (gone i))
+      (shows .term i ∙ has-above most (l .term) i (sets .term-low) (omega (arith, b)))
       ∙ sym (has-above most r i (deletes .low) (omega (arith, b))))
 
   pub shows-delete : Shows t (deletedLine l r) w (delete (projectIn t) (ownOf t) d)
@@ -78,4 +79,6 @@ module _ (t : List ℕ) (given : Instance t) (l : Line) (w : List ℕ) (d : Diag
         freed = shows .freed;
         readied = shows .readied;
         roomy = shows .roomy;
+        live = shows .live;
+        live-frozen = shows .live-frozen;
       }

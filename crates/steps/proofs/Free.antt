@@ -1,13 +1,14 @@
--- Where an activity is free to start: the tests of the code among the frozen ones of its component are those of the scan.
+-- Where an activity is free to start: the tests of the code among the frozen ones of its component are those of the
+-- scan.
 use Prim.Native.Nat.{ℕ, _+_, _≤_, _<_, max}
 use native.Mathlib.Decide.{ℕ-discrete, decLe}
 use native.Mathlib.Omega.{arith}
-use mathlib.Core.Bool.{Bool, true, false, not, cond, _&&_}
+use mathlib.Core.Bool.{Bool, true, false, not, cond, _&&_, _||_}
 use mathlib.Core.List.{List}
 use mathlib.Core.Logic.{_≢_, by-cases}
 use mathlib.Core.Path.{_≡_, refl, sym, ap, _∙_}
 use lib.Dec.{leb, ltb, eqb}
-use borrow.Author.Tests.{leb-true, le-leb, ltb-true, lt-ltb, eq-eqb, ne-eqb, not-true}
+use borrow.Author.Tests.{leb-true, le-leb, ltb-true, lt-ltb, eq-eqb, eqb-true, ne-eqb, not-true}
 use Rattle.base.specs.Below.{everyBelow, _implies_}
 use Rattle.base.proofs.Bools.{by-bool, true-not-false, both, and-left, and-right, cond-true, cond-false}
 use Rattle.base.proofs.Below.{every-at, every-of, every-fails, implies-elim, implies-intro, sum-le, sum-more, sum-stops}
@@ -18,7 +19,8 @@ use Rattle.schedule.proofs.Load.{units-in-load, load-none}
 use Rattle.branching.proofs.Node.{Node}
 use Rattle.branching.proofs.Fit.{FitsOn}
 use Rattle.scan.specs.Scan.{Diagram}
-use Rattle.unit_scan_exact.proofs.Standing.{Standing, has-frozen, ends-late}
+use Rattle.scan.specs.Scan.{isAhead, isNext}
+use Rattle.scan_exact.proofs.Standing.{Standing, has-frozen, ends-late}
 use Rattle.instance.specs.Instance.{ownOf, fitTogether, isTight, Instance}
 use Rattle.instance.specs.Table.{actsOf, durationAt, unitsAt, capacityAt, resourcesOf, tightOf, projectIn}
 use Rattle.profile.specs.Work.{endAt, startAt}
@@ -109,6 +111,27 @@ module _ (t : List ℕ) (given : Instance t) (d : Diagram) (line : ℕ) (standin
         ends = omega (arith, gt, given .laid .long k (has-frozen (projectIn t) d line standing k f .below));
       })
       (λ r b. standing .at i there waits .room .fits x r b (omega arith) in-time)))
+
+  -- So it comes next.
+  pub tight-next : (i : ℕ) → d .placed i ≡ true → d .frozen i ≡ false → has (tightOf t) i ≡ true
+      → isNext (projectIn t) (ownOf t) d i ≡ true
+  unfolding projectIn
+  tight-next i there waits tight =
+      every-of (actsOf t)
+      (λ k.
+      (d .frozen k && true && eqb (ownOf t k) (ownOf t i))
+      implies isAhead (projectIn t) (ownOf t) (d .starts k) k (d .starts i) i)
+      (λ k lk.
+      implies-intro (d .frozen k && true && eqb (ownOf t k) (ownOf t i))
+      (isAhead (projectIn t) (ownOf t) (d .starts k) k (d .starts i) i)
+      (λ y.
+      let f : d .frozen k ≡ true =
+      and-left (d .frozen k) true (and-left (d .frozen k && true) (eqb (ownOf t k) (ownOf t i)) y) in
+      let on : ownOf t k ≡ ownOf t i =
+      eqb-true (ownOf t k) (ownOf t i) (and-right (d .frozen k && true) (eqb (ownOf t k) (ownOf t i)) y) in
+      ap (λ (x : Bool). x || (eqb (d .starts k) (d .starts i) && ltb k i))
+      (lt-ltb (d .starts k) (d .starts i)
+      (omega (arith, tight-after i there waits tight k f on, given .laid .long k lk)))))
 
   -- The ends of the frozen ones stand in the working array.
   module _ (w : List ℕ) (ended : (k : ℕ) → d .frozen k ≡ true → d .starts k + durationAt t k ≡ endAt w k) where

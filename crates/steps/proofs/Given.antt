@@ -7,9 +7,9 @@ use mathlib.Core.Path.{_≡_, refl}
 use Rattle.sets.specs.Sets.{has}
 use Rattle.schedule.proofs.Load.{Has, Sound}
 use Rattle.branching.proofs.Room.{Ranked}
-use Rattle.unit_scan_exact.proofs.Standing.{Scannable, Begun}
-use Rattle.unit_scan_exact.proofs.Components.{components-few, components-joint}
-use Rattle.unit_scan_exact.proofs.Schedules.{none-begun}
+use Rattle.scan_exact.proofs.Standing.{Scannable, Begun}
+use Rattle.scan_exact.proofs.Components.{components-few, components-joint}
+use Rattle.scan_exact.proofs.Schedules.{none-begun}
 use Rattle.instance.specs.Instance.{ownOf, Instance}
 use Rattle.instance.specs.Table.{presentOf, resourcesOf, projectIn}
 

@@ -3,6 +3,7 @@ pub mod Own
 pub mod Given
 pub mod Free
 pub mod Sets
+pub mod Live
 pub mod Deleted
 pub mod Attached
 pub mod Moved

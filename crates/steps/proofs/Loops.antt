@@ -7,24 +7,20 @@ use mathlib.Core.Bool.{Bool, true, false, cond, not, _&&_, _||_, and-false, and-
 use mathlib.Core.List.{List}
 use mathlib.Core.Logic.{_⊎_, _≢_, inl, inr, ⊎-elim, by-cases}
 use mathlib.Core.Path.{_≡_, refl, sym, ap, ap₂, _∙_}
-use borrow.Author.Tests.{lt-ltb, eq-eqb, ne-eqb, eqb-true, not-true}
-use lib.Bits.{bitAnd, bitOr, bitXor, and-le-l, or-lt, xor-lt}
+use borrow.Author.Tests.{lt-ltb, le-leb, lt-leb, eq-eqb, ne-eqb, eqb-true, not-true}
+use lib.Bits.{bitAnd, bitOr, bitXor, and-le-l, or-lt}
 use lib.Dec.{leb, eqb}
 use lib.Pow.{pow-lt}
 use Rattle.base.proofs.Bools.{by-bool, true-not-false, both, and-left, and-right, cond-true, cond-false}
 use Rattle.sets.specs.Sets.{most, has}
-use Rattle.sets.proofs.Laws.{has-none, has-single, has-and, has-minus, has-with}
+use Rattle.sets.proofs.Laws.{has-none, has-single, has-and, has-minus, has-with, minus-low}
 use Rattle.sets.proofs.Members.{lowest-below}
 use Rattle.sets.proofs.Turns.{Turn, turn-has}
 use Rattle.instance.specs.Instance.{Laid, ownOf}
 use Rattle.instance.specs.Table.{actsOf, componentAt, ownAt}
 use Rattle.profile.specs.Work.{endAt}
-use Rattle.steps.specs.Steps.{never, runningIn, finishAt, FirstEnd, FirstStop}
-use Rattle.steps.specs.Steps.{Deletes}
+use Rattle.steps.specs.Steps.{never, runningIn, finishAt, FirstEnd, FirstStop, Deletes, deletedLine}
 use Rattle.steps.specs.declared.Line.{Line}
-
-pub minus-low : (a b : ℕ) → a < 2 ^ most → bitXor a (bitAnd a b) < 2 ^ most
-minus-low a b h = xor-lt most a (bitAnd a b) h (lt-of-le-of-lt (and-le-l a b) h)
 
 pub common-low : (a b : ℕ) → a < 2 ^ most → bitAnd a b < 2 ^ most
 common-low a b h = lt-of-le-of-lt (and-le-l a b) h
@@ -91,14 +87,6 @@ module _ (f : ℕ → ℕ) (from all : ℕ) where
             ⊎-elim (λ q. inl (same ∙ q)) (λ (k, y, q). inr (k, y, same ∙ q)) (so-far .attained))
             (λ g. inr (i, so-far .inside i (turn .there), omega arith));
       }
-
-pub first-end : (w : List ℕ) (all : ℕ) {first rest : ℕ} → Least (endAt w) never all first rest → rest ≡ 0
-    → FirstEnd w all first
-first-end w all found none =
-    record {
-      least = λ i y. found .least i y (ap (λ (x : ℕ). has x i) none ∙ has-none i);
-      attained = found .attained;
-    }
 
 -- ---- the first stop, and the components of those that end on it
 
@@ -283,30 +271,124 @@ module _ (mark : ℕ → Bool) (old all : ℕ) where
       pub mark-kept : has old i ≡ mark′ i → Marking mark′ old all new rest′
       mark-kept e = mark-turn new (so-far .low) (so-far .yet i (turn .there) ∙ e) (λ k ne. refl)
 
--- ---- what runs on behind the tick stays in T
+-- ---- what runs on behind the tick stays in T, and the first end of it is looked for
 
--- It does not end by then.
-abbrev pub goesOn : List ℕ → ℕ → ℕ → Bool
+-- It does not end by then; where it ends, or never where it has ended.
+abbrev goesOn : List ℕ → ℕ → ℕ → Bool
 goesOn w tick i = not (leb (endAt w i) tick)
 
-pub deleted : (w : List ℕ) (l : Line) {term rest : ℕ}
-    → Marking (goesOn w (l .tick)) (l .term) (runningIn l) term rest
-    → rest ≡ 0
-    → Deletes w l term
-deleted w l {term} so-far none =
-    record {
-      low = so-far .low;
-      kept =
-          λ i b.
-          marked (goesOn w (l .tick)) (l .term) (runningIn l) so-far none i
-          ∙ by-bool
+abbrev endBehind : List ℕ → ℕ → ℕ → ℕ
+endBehind w tick i = cond (goesOn w tick i) (endAt w i) never
+
+pub record Expiring (w : List ℕ) (l : Line) (term first rest : ℕ) : Type 0 where
+  pub marks : Marking (goesOn w (l .tick)) (l .term) (runningIn l) term rest
+  pub ends : Least (endBehind w (l .tick)) never (runningIn l) first rest
+
+module _ (w : List ℕ) (l : Line) where
+  abbrev on : ℕ → Bool
+  on = goesOn w (l .tick)
+
+  abbrev end : ℕ → ℕ
+  end = endBehind w (l .tick)
+
+  pub expiring : l .term < 2 ^ most → Expiring w l (l .term) never (runningIn l)
+  expiring low =
+      record {
+        marks = marking on (l .term) (runningIn l) low (minus-low (l .term) (l .left) low);
+        ends = least-none end never (runningIn l) (minus-low (l .term) (l .left) low);
+      }
+
+  module _ {term first rest : ℕ} (so-far : Expiring w l term first rest) where
+    module _ {rest′ i : ℕ} (turn : Turn rest rest′ i) where
+      -- It has ended.
+      pub expire-ended : (term′ : ℕ) → endAt w i ≤ l .tick → term′ ≡ bitXor term (bitAnd term (2 ^ i))
+          → Expiring w l term′ first rest′
+      expire-ended term′ le e =
+          let off : on i ≡ false = ap not (le-leb (endAt w i) (l .tick) le) in
+          record {
+            marks = mark-without on (l .term) (runningIn l) (so-far .marks) turn on (λ k ne. refl) term′ off e;
+            ends =
+                least-more end never (runningIn l) first (so-far .ends) turn
+                (omega (arith, so-far .ends .upto, cond-false (endAt w i) never off));
+          }
+
+      -- It runs on.
+      pub expire-on : (first′ : ℕ) → l .tick < endAt w i → first′ ≡ min first (endAt w i)
+          → Expiring w l term first′ rest′
+      expire-on first′ lt e =
+          let runs : on i ≡ true = ap not (lt-leb (endAt w i) (l .tick) lt) in
+          let in-term : has (l .term) i ≡ true =
+          minus-parts (l .term) (l .left) i (so-far .marks .inside i (turn .there)) .0 in
+          record {
+            marks =
+                mark-kept on (l .term) (runningIn l) (so-far .marks) turn on (λ k ne. refl) (in-term ∙ sym runs);
+            ends =
+                least-more end never (runningIn l) first′ (so-far .ends) turn
+                (e ∙ ap (min first) (sym (cond-true (endAt w i) never runs)));
+          }
+
+    module _ (none : rest ≡ 0) where
+      term-is : (i : ℕ) → has term i ≡ cond (has (runningIn l) i) (on i) (has (l .term) i)
+      term-is = marked on (l .term) (runningIn l) (so-far .marks) none
+
+      deletes : Deletes w l term
+      deletes =
+          record {
+            low = so-far .marks .low;
+            kept =
+                λ i b.
+                term-is i
+                ∙ by-bool
+                (has (runningIn l) i)
+                (λ y.
+                cond-true (on i) (has (l .term) i) y
+                ∙ sym (ap₂ (λ (a b : Bool). a && not (b && leb (endAt w i) (l .tick)))
+                (minus-parts (l .term) (l .left) i y .0) y))
+                (λ n.
+                cond-false (on i) (has (l .term) i) n
+                ∙ sym (ap (λ (b : Bool). has (l .term) i && not (b && leb (endAt w i) (l .tick))) n
+                ∙ and-true (has (l .term) i)));
+          }
+
+      -- Those that T keeps.
+      stays : (i : ℕ) → has (runningIn (deletedLine l term)) i ≡ true → (has (runningIn l) i ≡ true) × (on i ≡ true)
+      stays i y =
+          let (there, off) = minus-parts term (l .left) i y in
+          let runs : has (runningIn l) i ≡ true =
+          by-bool
           (has (runningIn l) i)
-          (λ y.
-          cond-true (goesOn w (l .tick) i) (has (l .term) i) y
-          ∙ sym (ap₂ (λ (a b : Bool). a && not (b && leb (endAt w i) (l .tick)))
-          (minus-parts (l .term) (l .left) i y .0) y))
+          (λ r. r)
           (λ n.
-          cond-false (goesOn w (l .tick) i) (has (l .term) i) n
-          ∙ sym (ap (λ (b : Bool). has (l .term) i && not (b && leb (endAt w i) (l .tick))) n
-          ∙ and-true (has (l .term) i)));
-    }
+          has-minus (l .term) (l .left) i
+          ∙ both (sym (cond-false (on i) (has (l .term) i) n) ∙ sym (term-is i) ∙ there) (ap not off)) in
+          (runs, sym (cond-true (on i) (has (l .term) i) runs) ∙ sym (term-is i) ∙ there)
+
+      kept-in : (i : ℕ) → has (runningIn l) i ≡ true → on i ≡ true → has (runningIn (deletedLine l term)) i ≡ true
+      kept-in i y runs =
+          has-minus term (l .left) i
+          ∙ both (term-is i ∙ cond-true (on i) (has (l .term) i) y ∙ runs)
+          (ap not (minus-parts (l .term) (l .left) i y .1))
+
+      pub expired : Deletes w l term × FirstEnd w (runningIn (deletedLine l term)) first
+      expired = (
+        deletes,
+        record {
+          least =
+              λ i y.
+              let (runs, behind) = stays i y in
+              omega (
+                arith,
+                so-far .ends .least i runs (ap (λ (x : ℕ). has x i) none ∙ has-none i),
+                cond-true (endAt w i) never behind,
+              );
+          attained =
+              ⊎-elim
+              inl
+              (λ (i, y, e).
+              by-bool
+              (on i)
+              (λ behind. inr (i, kept-in i y behind, e ∙ cond-true (endAt w i) never behind))
+              (λ n. inl (e ∙ cond-false (endAt w i) never n)))
+              (so-far .ends .attained);
+        },
+      )

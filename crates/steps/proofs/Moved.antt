@@ -10,44 +10,143 @@ use mathlib.Core.Path.{_≡_, sym, ap, ap₂, _∙_}
 use lib.Bits.{bitAnd, bitXor}
 use lib.Dec.{eqb}
 use borrow.Author.Tests.{eqb-true, eq-eqb, not-true}
-use Rattle.base.proofs.Bools.{by-bool, same-bool, true-not-false, both, and-left, and-right}
+use Rattle.base.proofs.Bools.{by-bool, true-not-false, both, and-left, and-right}
 use Rattle.plan.specs.Limits.{longestDuration}
 use Rattle.sets.specs.Sets.{has}
 use Rattle.schedule.specs.Schedule.{endOf}
 use Rattle.scan.specs.Scan.{Diagram}
-use Rattle.unit_scan.specs.Scan.{some, rightEnd, readyTick, isLoose, isDirect, isContested, isWaiting, isComplete, move}
-use Rattle.unit_scan_exact.proofs.Rooms.{ready-least}
-use Rattle.unit_scan_exact.proofs.Standing.{Standing}
-use Rattle.unit_scan_exact.proofs.Attached.{Gone, some-is, some-of, some-not}
-use Rattle.unit_scan_exact.proofs.Moved.{Stops, ends, readies, move-upto, move-stops, move-later}
+use Rattle.scan.specs.Scan.{some, rightEnd, readyTick, isDirect, isContested, isWaiting, isComplete, move}
+use Rattle.scan_exact.specs.Comes.{atTick}
+use Rattle.scan_exact.proofs.Rooms.{ready-least}
+use Rattle.scan_exact.proofs.Standing.{Standing}
+use Rattle.scan_exact.proofs.Attached.{Gone, some-is, some-of, some-not}
+use Rattle.scan_exact.proofs.Moved.{Stops, ends, readies, move-upto, move-stops, move-later}
 use Rattle.instance.specs.Instance.{ownOf, Instance}
 use Rattle.instance.proofs.Own.{own-is}
 use Rattle.instance.specs.Table.{actsOf, durationAt, ownAt, projectIn}
 use Rattle.profile.specs.Work.{endAt, Timed}
-use Rattle.steps.specs.Steps.{never, Sets, Moves, frozenIn, runningIn, looseIn, finishAt}
+use Rattle.steps.specs.Steps.{never, Sets, FirstEnd, Moves, frozenIn, runningIn, looseIn, finishAt}
 use Rattle.steps.specs.Shown.{Shows}
 use Rattle.steps.specs.declared.Line.{Line}
 use Rattle.steps.proofs.Given.{scannable, ranked}
 use Rattle.steps.proofs.Sets.{loose-is, running-is, running-frozen, running-there, loose-there, loose-shown}
 
 -- No time that stands in the working array is later than never.
-finish-fits : (t w : List ℕ) (i : ℕ) → Timed w → durationAt t i ≤ longestDuration → finishAt t w i < never
+pub finish-fits : (t w : List ℕ) (i : ℕ) → Timed w → durationAt t i ≤ longestDuration → finishAt t w i < never
 finish-fits t w i timed short =
     omega (arith, timed .times (32 + i), timed .times (64 + ownAt t i), short)
 
+-- Where what is placed and not frozen ends.
+pub loose-end : (t : List ℕ) (l : Line) (w : List ℕ) (d : Diagram) → Shows t l w d → (i : ℕ) → has (looseIn l) i ≡ true
+    → endOf (projectIn t) (d .starts) i ≡ finishAt t w i
+unfolding projectIn
+loose-end t l w d shows i y = omega (arith, shows .loose i y)
+
+-- The sets are the same.
+module _ {t w : List ℕ} {l : Line} {first : ℕ} {r : Line} (moves : Moves t w l first r) (i : ℕ) where
+  pub moved-frozen : has (frozenIn r) i ≡ has (frozenIn l) i
+  moved-frozen = ap₂ (λ (a b : ℕ). has (bitXor a (bitAnd a b)) i) (moves .placed) (moves .left)
+
+  pub moved-running : has (runningIn r) i ≡ has (runningIn l) i
+  moved-running = ap₂ (λ (a b : ℕ). has (bitXor a (bitAnd a b)) i) (moves .term) (moves .left)
+
+  pub moved-loose : has (looseIn r) i ≡ has (looseIn l) i
+  moved-loose = ap₂ (λ (a b : ℕ). has (bitAnd a b) i) (moves .placed) (moves .left)
+
+-- At a later tick.
+module _ (t : List ℕ) (given : Instance t) (l : Line) (w : List ℕ) (d : Diagram) (shows : Shows t l w d) (line : ℕ)
+    (standing : Standing (projectIn t) d line) (sets : Sets t w l) (first : ℕ) (r : Line) (moves : Moves t w l first r)
+    (x : ℕ) (on : x ≡ r .tick) where
+  -- The contested components.
+  abbrev directs : ℕ → ℕ → Bool
+  directs c i = isDirect (projectIn t) (ownOf t) (atTick d x) i && eqb (ownOf t i) c
+
+  due-contested : (c : ℕ) → has (r .due) c ≡ true → isContested (projectIn t) (ownOf t) (atTick d x) c ≡ true
+  due-contested c y =
+      let (i, loose, end, own) = moves .stop .only c y in
+      let (placed, z) = loose-shown t given l w d shows line standing i loose in
+      let b : i < actsOf t = sets .left i (loose-is l i loose .1) in
+      some-of (projectIn t) (ownOf t) (directs c) i (standing .inside i placed .below)
+      (both
+      (both (both placed (ap not z))
+      (eq-eqb (rightEnd (projectIn t) (ownOf t) (atTick d x) i) x
+      (omega (arith, loose-end t l w d shows i loose, end, on))))
+      (eq-eqb (ownOf t i) c (sym (own-is t (given .laid) i b) ∙ own)))
+
+  contested-due : (c : ℕ) → isContested (projectIn t) (ownOf t) (atTick d x) c ≡ true → has (r .due) c ≡ true
+  contested-due c y =
+      let (i, _, two) = some-is (projectIn t) (ownOf t) (directs c) y in
+      let direct : isDirect (projectIn t) (ownOf t) (atTick d x) i ≡ true =
+      and-left (isDirect (projectIn t) (ownOf t) (atTick d x) i) (eqb (ownOf t i) c) two in
+      let own : ownOf t i ≡ c =
+      eqb-true (ownOf t i) c (and-right (isDirect (projectIn t) (ownOf t) (atTick d x) i) (eqb (ownOf t i) c) two) in
+      let ends : rightEnd (projectIn t) (ownOf t) (atTick d x) i ≡ x =
+      eqb-true (rightEnd (projectIn t) (ownOf t) (atTick d x) i) x
+      (and-right (d .placed i && not (d .frozen i)) (eqb (rightEnd (projectIn t) (ownOf t) (atTick d x) i) x) direct) in
+      let loose : (d .placed i && not (d .frozen i)) ≡ true =
+      and-left (d .placed i && not (d .frozen i)) (eqb (rightEnd (projectIn t) (ownOf t) (atTick d x) i) x) direct in
+      let shown : has (looseIn l) i ≡ true =
+      loose-there t given l w d shows line standing i (and-left (d .placed i) (not (d .frozen i)) loose)
+      (not-true (d .frozen i) (and-right (d .placed i) (not (d .frozen i)) loose)) in
+      let b : i < actsOf t = sets .left i (loose-is l i shown .1) in
+      ap (has (r .due)) (sym (own-is t (given .laid) i b ∙ own))
+      ∙ moves .stop .due i shown (omega (arith, loose-end t l w d shows i shown, ends, on))
+
+  pub due-is : (c : ℕ) → has (r .due) c ≡ isContested (projectIn t) (ownOf t) (atTick d x) c
+  due-is c =
+      by-bool (has (r .due) c) (λ y. y ∙ sym (due-contested c y))
+      (λ z.
+      z
+      ∙ sym
+      (by-bool (isContested (projectIn t) (ownOf t) (atTick d x) c) (λ y. true-not-false (contested-due c y) z)
+      (λ n. n)))
+
+  pub shows-later : d .tick ≤ x → Shows t r w (atTick d x)
+  shows-later later =
+      record {
+        tick = on;
+        placed = λ i. shows .placed i ∙ ap (λ (x : ℕ). has x i) (sym (moves .placed));
+        frozen = λ i. shows .frozen i ∙ sym (moved-frozen moves i);
+        term = λ i. shows .term i ∙ ap (λ (x : ℕ). has x i) (sym (moves .term));
+        left = λ i. ap (λ (x : ℕ). has x i) (moves .left) ∙ shows .left i;
+        loose = λ i y. shows .loose i (sym (moved-loose moves i) ∙ y);
+        ended = λ i y. shows .ended i (sym (moved-frozen moves i) ∙ y);
+        passed =
+            λ i y. ap (λ (x : ℕ). has x i) (moves .passed) ∙ shows .passed i (sym (moved-loose moves i) ∙ y);
+        passed-placed =
+            λ i y.
+            ap (λ (x : ℕ). has x i) (moves .placed)
+            ∙ shows .passed-placed i (ap (λ (x : ℕ). has x i) (sym (moves .passed)) ∙ y);
+        tight =
+            λ i y tight.
+            ⊎-elim (λ le. inl le) (λ le. inr (omega (arith, le, on, later, shows .tick)))
+            (shows .tight i (sym (moved-frozen moves i) ∙ y) tight);
+        freed =
+            λ i tight.
+            ⊎-elim (λ none. inl none) (λ (k, f, own, end). inr (k, moved-frozen moves k ∙ f, own, end))
+            (shows .freed i tight);
+        readied =
+            λ i y tight.
+            omega (arith, shows .readied i (sym (moved-loose moves i) ∙ y) tight, on, later, shows .tick);
+        roomy = shows .roomy;
+        live =
+            λ k y z.
+            ⊎-elim (λ on. inl (ap (λ (x : ℕ). has x k) (moves .live) ∙ on))
+            (λ (j, f, own, end). inr (j, moved-frozen moves j ∙ f, own, end))
+            (shows .live k (sym (moved-frozen moves k) ∙ y) z);
+        live-frozen =
+            λ k y. moved-frozen moves k ∙ shows .live-frozen k (ap (λ (x : ℕ). has x k) (sym (moves .live)) ∙ y);
+      }
+
 module _ (t : List ℕ) (given : Instance t) (l : Line) (w : List ℕ) (d : Diagram) (shows : Shows t l w d)
     (standing : Standing (projectIn t) d (suc (d .tick))) (gone : Gone (projectIn t) d) (sets : Sets t w l)
-    (rest : isComplete (projectIn t) (ownOf t) d ≡ false) (r : Line) (moves : Moves t w l r) where
+    (rest : isComplete (projectIn t) (ownOf t) d ≡ false) (first : ℕ) (running : FirstEnd w (runningIn l) first)
+    (r : Line) (moves : Moves t w l first r) where
   abbrev comp : ℕ → ℕ
   comp = ownOf t
 
   abbrev there : Diagram
   there = move (projectIn t) comp d
-
-  -- Where the placed ones end.
-  loose-end : (i : ℕ) → has (looseIn l) i ≡ true → endOf (projectIn t) (d .starts) i ≡ finishAt t w i
-  unfolding projectIn
-  loose-end i y = omega (arith, shows .loose i y)
 
   running-end : (i : ℕ) → has (runningIn l) i ≡ true → endOf (projectIn t) (d .starts) i ≡ endAt w i
   unfolding projectIn
@@ -82,11 +181,11 @@ module _ (t : List ℕ) (given : Instance t) (l : Line) (w : List ℕ) (d : Diag
       (λ f.
       let run : has (runningIn l) i ≡ true =
       running-there t given l w d shows (suc (d .tick)) standing i f term in
-      omega (arith, moves .stop .upto, moves .running .least i run, running-end i run))
+      omega (arith, moves .stop .upto, running .least i run, running-end i run))
       (λ z.
       let loose : has (looseIn l) i ≡ true =
       loose-there t given l w d shows (suc (d .tick)) standing i y z in
-      omega (arith, moves .stop .least i loose, loose-end i loose))
+      omega (arith, moves .stop .least i loose, loose-end t l w d shows i loose))
 
   by-placed : {C : Type 0} (i : ℕ) → d .placed i ≡ true → d .term i ≡ true → (has (looseIn l) i ≡ true → C)
       → (has (runningIn l) i ≡ true → C) → C
@@ -102,7 +201,7 @@ module _ (t : List ℕ) (given : Instance t) (l : Line) (w : List ℕ) (d : Diag
         arith,
         move-upto (projectIn t) comp (scannable t given) (given .rank) (ranked t given) d standing gone i placed
             (standing .waiting i (standing .inside i placed) z),
-        loose-end i y,
+        loose-end t l w d shows i y,
       )
 
   running-upto : (i : ℕ) → has (runningIn l) i ≡ true → there .tick ≤ endAt w i
@@ -141,7 +240,7 @@ module _ (t : List ℕ) (given : Instance t) (l : Line) (w : List ℕ) (d : Diag
                 (given .laid .short i (omega (arith, sets .left i (loose-is l i loose .1), given .laid .acts))),
           ))
           (λ run.
-          omega (arith, moves .stop .upto, moves .running .least i run, sets .timed .times i))
+          omega (arith, moves .stop .upto, running .least i run, sets .timed .times i))
       by-stop (readies i y before e) = absurd (omega (arith, ready-by i y, before))
 
   tick-high : there .tick ≤ r .tick
@@ -149,87 +248,22 @@ module _ (t : List ℕ) (given : Instance t) (l : Line) (w : List ℕ) (d : Diag
       ⊎-elim
       (λ e.
       ⊎-elim (λ no-end. absurd (omega (arith, e, no-end, tick-fits)))
-      (λ (i, run, end). omega (arith, e, end, running-upto i run)) (moves .running .attained))
+      (λ (i, run, end). omega (arith, e, end, running-upto i run)) (running .attained))
       (λ (i, loose, end). omega (arith, end, loose-upto i loose)) (moves .stop .attained)
 
   tick-is : there .tick ≡ r .tick
   tick-is = le-antisymm tick-high tick-low
 
-  -- The contested components.
-  abbrev directs : ℕ → ℕ → Bool
-  directs c i = isDirect (projectIn t) comp there i && eqb (comp i) c
-
-  direct-of : (i : ℕ) → has (looseIn l) i ≡ true → r .tick ≡ finishAt t w i → isDirect (projectIn t) comp there i ≡ true
-  unfolding move
-  direct-of i y e =
-      let (placed, z) = loose-shown t given l w d shows (suc (d .tick)) standing i y in
-      both (both placed (ap not z))
-      (eq-eqb (rightEnd (projectIn t) comp there i) (there .tick) (omega (arith, loose-end i y, e, tick-is)))
-
-  pub due-is : (c : ℕ) → has (r .due) c ≡ isContested (projectIn t) comp there c
-  unfolding move
-  due-is c =
-      same-bool (has (r .due) c) (isContested (projectIn t) comp there c)
-      (λ y.
-      let (i, loose, e, own) = moves .stop .only c y in
-      let (placed, _) = loose-shown t given l w d shows (suc (d .tick)) standing i loose in
-      let b : i < actsOf t = sets .left i (loose-is l i loose .1) in
-      some-of (projectIn t) comp (directs c) i (standing .inside i placed .below)
-      (both (direct-of i loose e) (eq-eqb (comp i) c (sym (own-is t (given .laid) i b) ∙ own))))
-      (λ y.
-      let (i, _, two) = some-is (projectIn t) comp (directs c) y in
-      let direct : isDirect (projectIn t) comp there i ≡ true =
-      and-left (isDirect (projectIn t) comp there i) (eqb (comp i) c) two in
-      let on : comp i ≡ c = eqb-true (comp i) c (and-right (isDirect (projectIn t) comp there i) (eqb (comp i) c) two) in
-      let free : isLoose (projectIn t) comp there i ≡ true =
-      and-left (isLoose (projectIn t) comp there i) (eqb (rightEnd (projectIn t) comp there i) (there .tick)) direct in
-      let end : rightEnd (projectIn t) comp there i ≡ there .tick =
-      eqb-true (rightEnd (projectIn t) comp there i) (there .tick)
-      (and-right (isLoose (projectIn t) comp there i) (eqb (rightEnd (projectIn t) comp there i) (there .tick)) direct) in
-      let loose : has (looseIn l) i ≡ true =
-      loose-there t given l w d shows (suc (d .tick)) standing i (and-left (d .placed i) (not (d .frozen i)) free)
-      (not-true (d .frozen i) (and-right (d .placed i) (not (d .frozen i)) free)) in
-      let b : i < actsOf t = sets .left i (loose-is l i loose .1) in
-      ap (has (r .due)) (sym (own-is t (given .laid) i b ∙ on))
-      ∙ moves .stop .due i loose (omega (arith, tick-is, end, loose-end i loose)))
-
-  -- The sets are the same.
-  frozen-same : (i : ℕ) → has (frozenIn r) i ≡ has (frozenIn l) i
-  frozen-same i = ap₂ (λ (a b : ℕ). has (bitXor a (bitAnd a b)) i) (moves .placed) (moves .left)
-
-  loose-same : (i : ℕ) → has (looseIn r) i ≡ has (looseIn l) i
-  loose-same i = ap₂ (λ (a b : ℕ). has (bitAnd a b) i) (moves .placed) (moves .left)
-
   -- The line goes on.
   later : d .tick ≤ there .tick
   later = move-later (projectIn t) comp (scannable t given) (given .rank) (ranked t given) d standing gone rest
 
+  pub due-move : (c : ℕ) → has (r .due) c ≡ isContested (projectIn t) (ownOf t) (move (projectIn t) (ownOf t) d) c
+  unfolding move
+  due-move =
+      due-is t given l w d shows (suc (d .tick)) standing sets first r moves (there .tick) tick-is
+
   pub shows-move : Shows t r w (move (projectIn t) (ownOf t) d)
   unfolding move
   shows-move =
-      record {
-        tick = tick-is;
-        placed = λ i. shows .placed i ∙ ap (λ (x : ℕ). has x i) (sym (moves .placed));
-        frozen = λ i. shows .frozen i ∙ sym (frozen-same i);
-        term = λ i. shows .term i ∙ ap (λ (x : ℕ). has x i) (sym (moves .term));
-        left = λ i. ap (λ (x : ℕ). has x i) (moves .left) ∙ shows .left i;
-        loose = λ i y. shows .loose i (sym (loose-same i) ∙ y);
-        ended = λ i y. shows .ended i (sym (frozen-same i) ∙ y);
-        passed =
-            λ i y. ap (λ (x : ℕ). has x i) (moves .passed) ∙ shows .passed i (sym (loose-same i) ∙ y);
-        passed-placed =
-            λ i y.
-            ap (λ (x : ℕ). has x i) (moves .placed)
-            ∙ shows .passed-placed i (ap (λ (x : ℕ). has x i) (sym (moves .passed)) ∙ y);
-        tight =
-            λ i y tight.
-            ⊎-elim (λ le. inl le) (λ le. inr (omega (arith, le, tick-is, later, shows .tick)))
-            (shows .tight i (sym (frozen-same i) ∙ y) tight);
-        freed =
-            λ i tight.
-            ⊎-elim (λ none. inl none) (λ (k, f, own, end). inr (k, frozen-same k ∙ f, own, end)) (shows .freed i tight);
-        readied =
-            λ i y tight.
-            omega (arith, shows .readied i (sym (loose-same i) ∙ y) tight, tick-is, later, shows .tick);
-        roomy = shows .roomy;
-      }
+      shows-later t given l w d shows (suc (d .tick)) standing sets first r moves (there .tick) tick-is later

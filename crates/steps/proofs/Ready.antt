@@ -4,8 +4,9 @@ use native.Mathlib.Decide.{ℕ-discrete}
 use native.Mathlib.Omega.{arith}
 use mathlib.Core.Bool.{Bool, true, false, cond, not, _&&_, _||_, and-false, and-assoc, or-false}
 use mathlib.Core.List.{List}
-use mathlib.Core.Logic.{_≢_, by-cases}
+use mathlib.Core.Logic.{_⊎_, _≢_, inl, inr, ⊎-elim, by-cases}
 use mathlib.Core.Path.{_≡_, refl, sym, ap, ap₂, _∙_}
+use borrow.Author.Tests.{ltb-true, ltb-false}
 use lib.Bits.{bitAnd, bitOr, bitXor}
 use lib.Dec.{leb, ltb}
 use lib.ListN.{getD, set, length, length-set}
@@ -15,16 +16,17 @@ use Rattle.base.proofs.Below.{every-same, sum-eq}
 use Rattle.base.proofs.Bools.{by-bool, true-not-false, both, and-left, and-right, cond-true, cond-false}
 use Rattle.plan.specs.Limits.{latestPossible}
 use Rattle.sets.specs.Sets.{most, has, meet}
-use Rattle.sets.proofs.Laws.{has-none, has-and, has-minus}
+use Rattle.sets.proofs.Laws.{has-none, has-and, has-minus, minus-low}
 use Rattle.sets.proofs.Turns.{Turn, turn-has}
 use Rattle.instance.specs.Table.{actsOf, durationAt, predsAt, componentAt, ownAt, unitsAt, capacityAt, resourcesOf}
 use Rattle.instance.specs.Table.{tightOf}
 use Rattle.profile.specs.Work.{endAt, readyAt, freeAt, startAt, readyFrom, freeFrom, Timed}
-use Rattle.profile.specs.Room.{Among, runsAt, heldAt, hasRoomAt, NextFit}
-use Rattle.steps.specs.Steps.{Sets, frozenIn, runningIn, waitingIn, looseIn}
-use Rattle.steps.specs.Steps.{isAhead, isShifted, Shifts, isFree, canStart, Attaches}
+use Rattle.profile.specs.Room.{Among, runsAt, Running, isLeft, heldAt, hasRoomAt, NextFit, Late}
+use Rattle.profile.proofs.Room.{runs-is, runs-of, room-left}
+use Rattle.steps.specs.Steps.{Sets, Runs, frozenIn, runningIn, waitingIn, looseIn}
+use Rattle.steps.specs.Steps.{isAhead, isShifted, Last, Shifts, isFree, canStart, Attaches}
 use Rattle.steps.specs.declared.Line.{Line}
-use Rattle.steps.proofs.Loops.{minus-low, common-low, minus-parts, common-parts, own-below}
+use Rattle.steps.proofs.Loops.{common-low, minus-parts, common-parts, own-below}
 use Rattle.steps.proofs.Loops.{Marking, marking, marked, mark-with, mark-kept}
 
 -- ---- the frozen ones of a component, beside one that is not frozen
@@ -70,22 +72,48 @@ module _ (t : List ℕ) (l : Line) (w : List ℕ) (given : Sets t w l) where
       has-minus (l .placed) (l .left) k
       ∙ both (given .term k runs) (ap not (minus-parts (l .term) (l .left) k runs .1)))
 
+  -- All of it does on the tick.
+  running-now : Runs t w l → (c : ℕ)
+      → Running t w (bitAnd (runningIn l) c) (l .tick) (l .tick) (bitAnd (runningIn l) c)
+  running-now now c =
+      let all : ℕ = bitAnd (runningIn l) c in
+      record {
+        low = common-low (runningIn l) c (minus-low (l .term) (l .left) (given .term-low));
+        runs =
+            λ k.
+            by-bool
+            (has all k)
+            (λ y.
+            let (begins, ends) = now .runs k (common-parts (runningIn l) c k y .0) in
+            y ∙ sym (runs-of t w all (l .tick) (l .tick) k (record { there = y; begins = begins; ends = ends })))
+            (λ n.
+            n
+            ∙ sym (ap (λ (b : Bool). b && leb (startAt t w k) (l .tick) && ltb (l .tick) (endAt w k)) n));
+      }
+
 -- ---- a working array with the same ends
+
+-- The same run on a tick, so there is the same room.
+pub room-alike : (t w w′ : List ℕ) (all all′ i u : ℕ)
+    → ((k : ℕ) → k < most → runsAt t w all u k ≡ runsAt t w′ all′ u k)
+    → hasRoomAt t w all i u ≡ hasRoomAt t w′ all′ i u
+unfolding hasRoomAt heldAt
+room-alike t w w′ all all′ i u same =
+    every-same (resourcesOf t) (left w all) (left w′ all′)
+    (λ r b.
+    ap (λ (x : ℕ). ltb 0 (unitsAt t i r) implies leb (x + unitsAt t i r) (capacityAt t r))
+    (sum-eq most (λ k. cond (runsAt t w all u k) (unitsAt t k r) 0)
+    (λ k. cond (runsAt t w′ all′ u k) (unitsAt t k r) 0)
+    (λ k l. ap (λ (x : Bool). cond x (unitsAt t k r) 0) (same k l))))
+  where
+    left : List ℕ → ℕ → ℕ → Bool
+    left v set r = ltb 0 (unitsAt t i r) implies leb (heldAt t v set u r + unitsAt t i r) (capacityAt t r)
 
 module _ (t w w′ : List ℕ) (ends : (k : ℕ) → k < most → endAt w′ k ≡ endAt w k) where
   room-same : (all i u : ℕ) → hasRoomAt t w′ all i u ≡ hasRoomAt t w all i u
-  unfolding hasRoomAt heldAt
   room-same all i u =
-      every-same (resourcesOf t) (left w′) (left w)
-      (λ r b.
-      ap (λ (x : ℕ). ltb 0 (unitsAt t i r) implies leb (x + unitsAt t i r) (capacityAt t r))
-      (sum-eq most (λ k. cond (runsAt t w′ all u k) (unitsAt t k r) 0)
-      (λ k. cond (runsAt t w all u k) (unitsAt t k r) 0)
-      (λ k l.
-      ap (λ (x : ℕ). cond (has all k && leb (x - durationAt t k) u && ltb u x) (unitsAt t k r) 0) (ends k l))))
-    where
-      left : List ℕ → ℕ → Bool
-      left v r = ltb 0 (unitsAt t i r) implies leb (heldAt t v all u r + unitsAt t i r) (capacityAt t r)
+      room-alike t w′ w all all i u
+      (λ k l. ap (λ (x : ℕ). has all k && leb (x - durationAt t k) u && ltb u x) (ends k l))
 
   among-same : {all i : ℕ} → Timed w′ → Among t w all i → Among t w′ all i
   among-same {all} {i} timed given =
@@ -121,10 +149,22 @@ module _ (t w w′ : List ℕ) (ends : (k : ℕ) → k < most → endAt w′ k �
         term-low = given .term-low;
         due-low = given .due-low;
         passed-low = given .passed-low;
+        live-low = given .live-low;
         placed = given .placed;
         left = given .left;
         term = given .term;
         ran = λ i y. omega (arith, ends i (frozen-below t l w given i y), given .ran i y);
+      }
+
+  runs-same : {l : Line} → Sets t w l → Runs t w l → Runs t w′ l
+  runs-same {l} given now =
+      record {
+        runs =
+            λ i y.
+            let (begins, behind) = now .runs i y in
+            let same : endAt w′ i ≡ endAt w i =
+            ends i (omega (arith, given .placed i (given .term i y), given .laid .acts)) in
+            (omega (arith, begins, same), omega (arith, behind, same));
       }
 
 -- ---- a tick stored for an activity
@@ -161,11 +201,15 @@ module _ (t w : List ℕ) (l : Line) (i : ℕ) {tight : Bool} (is : tight ≡ ha
       (hasRoomAt t w (bitAnd (runningIn l) (componentAt t i)) i (l .tick)) (sym is ∙ y))
 
   pub free-roomy : {all : ℕ} {r : Bool} → tight ≡ false → all ≡ bitAnd (runningIn l) (componentAt t i)
-      → r ≡ hasRoomAt t w all i (l .tick)
+      → Sets t w l
+      → Runs t w l
+      → r ≡ isLeft t all i
       → r ≡ isFree t w l i
-  free-roomy n e room =
-      room
-      ∙ ap (λ (x : ℕ). hasRoomAt t w x i (l .tick)) e
+  free-roomy n e given now left =
+      left
+      ∙ ap (λ (x : ℕ). isLeft t x i) e
+      ∙ room-left t w (bitAnd (runningIn l) (componentAt t i)) i (l .tick)
+      (running-now t l w given now (componentAt t i))
       ∙ sym (cond-false (leb (freeAt w (ownAt t i)) (l .tick))
       (hasRoomAt t w (bitAnd (runningIn l) (componentAt t i)) i (l .tick)) (sym is ∙ n))
 
@@ -176,6 +220,7 @@ unheld t w l i = not (meet (predsAt t i) (l .term)) && isFree t w l i
 -- All but the members of `rest` have been looked at.
 pub record Attaching (t : List ℕ) (l : Line) (w w′ : List ℕ) (placed rest : ℕ) : Type 0 where
   pub sets : Sets t w′ l
+  pub runs : Runs t w′ l
   pub marks : Marking (unheld t w l) (l .placed) (waitingIn l) placed rest
   pub started : (j : ℕ) → has rest j ≡ false → canStart t w l j ≡ true → readyAt w′ j ≡ l .tick
   pub same : (c : ℕ) → ((j : ℕ) → j < most → canStart t w l j ≡ true → c ≡ readyFrom + j → ⊥)
@@ -188,10 +233,11 @@ module _ (t : List ℕ) (l : Line) (w : List ℕ) where
   can-parts : (j : ℕ) → (waits j && unheld t w l j) ≡ canStart t w l j
   can-parts j = sym (and-assoc (waits j) (not (meet (predsAt t j) (l .term))) (isFree t w l j))
 
-  pub attaching : Sets t w l → Attaching t l w w (l .placed) (waitingIn l)
-  attaching given =
+  pub attaching : Sets t w l → Runs t w l → Attaching t l w w (l .placed) (waitingIn l)
+  attaching given now =
       record {
         sets = given;
+        runs = now;
         marks =
             marking (unheld t w l) (l .placed) (waitingIn l) (given .placed-low)
             (minus-low (l .left) (l .placed) (given .left-low));
@@ -241,6 +287,7 @@ module _ (t : List ℕ) (l : Line) (w : List ℕ) where
       attach-less n =
           record {
             sets = so-far .sets;
+            runs = so-far .runs;
             marks =
                 mark-kept (unheld t w l) (l .placed) (waitingIn l) (so-far .marks) turn (unheld t w l) (λ k ne. refl)
                 (minus-parts (l .left) (l .placed) i mine .1 ∙ sym n);
@@ -266,6 +313,7 @@ module _ (t : List ℕ) (l : Line) (w : List ℕ) where
             sets =
                 sets-same t w′ w″ (λ k b. other k (λ e. omega arith))
                 (stored-timed w′ w″ i (l .tick) timed (turn .below) wrote early) (so-far .sets);
+            runs = runs-same t w′ w″ (λ k b. other k (λ e. omega arith)) (so-far .sets) (so-far .runs);
             marks =
                 mark-with (unheld t w l) (l .placed) (waitingIn l) (so-far .marks) turn (unheld t w l) (λ k ne. refl)
                 placed′ y with-i;
@@ -285,151 +333,233 @@ module _ (t : List ℕ) (l : Line) (w : List ℕ) where
 abbrev passes : List ℕ → ℕ → ℕ → ℕ → Bool
 passes w start j k = isAhead (readyAt w k) k start j
 
-pub record Shifting (t w : List ℕ) (among start j old all : ℕ) (w′ : List ℕ) (passed rest : ℕ) : Type 0 where
+-- The frozen ones of the component of j.
+abbrev pub settled : List ℕ → Line → ℕ → ℕ
+settled t l j = bitAnd (frozenIn l) (componentAt t j)
+
+pub record Shifting (t : List ℕ) (l : Line) (j : ℕ) (w : List ℕ) (old all : ℕ) (w′ : List ℕ) (passed rest : ℕ)
+    : Type 0 where
   pub timed : Timed w′
-  pub marks : Marking (passes w′ start j) old all passed rest
-  pub fresh : (k : ℕ) → has all k ≡ true → has old k ≡ false
-  pub given : (k : ℕ) → has all k ≡ true → Among t w among k
-  pub fit : (k : ℕ) → has all k ≡ true → has rest k ≡ false → NextFit t w among k (readyAt w k) (readyAt w′ k)
+  pub marks : Marking (passes w′ (startAt t w j) j) old all passed rest
+  pub fit : (k : ℕ) → has all k ≡ true → has rest k ≡ false
+      → NextFit t w (settled t l j) k (readyAt w k) (readyAt w′ k)
   pub same : (c : ℕ) → ((k : ℕ) → has all k ≡ true → has rest k ≡ false → c ≡ readyFrom + k → ⊥)
       → getD w′ c 0 ≡ getD w c 0
 
-module _ {t w w′ : List ℕ} {among start j old all passed rest : ℕ}
-    (so-far : Shifting t w among start j old all w′ passed rest) where
-  ends-kept : (k : ℕ) → k < most → endAt w′ k ≡ endAt w k
-  ends-kept k b = so-far .same k (λ i y n e. omega arith)
+-- i alone has been shifted.
+pub record Fitted (t : List ℕ) (l : Line) (j : ℕ) (w w′ w″ : List ℕ) (i : ℕ) : Type 0 where
+  pub timed : Timed w″
+  pub fit : NextFit t w (settled t l j) i (readyAt w i) (readyAt w″ i)
+  pub other : (c : ℕ) → c ≢ readyFrom + i → getD w″ c 0 ≡ getD w′ c 0
 
-  pub shift-among : (k : ℕ) → has rest k ≡ true → Among t w′ among k
-  shift-among k y = among-same t w w′ ends-kept (so-far .timed) (so-far .given k (so-far .marks .inside k y))
-
-  module _ {rest′ i : ℕ} (turn : Turn rest rest′ i) (w″ : List ℕ) (next : ℕ)
-      (found : NextFit t w′ among i (readyAt w′ i) next) (wrote : w″ ≡ set w′ (readyFrom + i) next) where
-    abbrev shifted : has all i ≡ true
-    shifted = so-far .marks .inside i (turn .there)
-
-    -- The next fit is the ready tick or an end.
-    next-early : next ≤ latestPossible
-    next-early =
-        by-cases
-        (ℕ-discrete next (readyAt w′ i))
-        (λ e. omega (arith, so-far .timed .times (readyFrom + i)))
-        (λ ne. let (k, y, e) = found .end ne in omega (arith, so-far .timed .times k))
-
-    there : readyAt w″ i ≡ next
-    there = stored-there w′ w″ i next (so-far .timed) (turn .below) wrote
-
-    other : (c : ℕ) → c ≢ readyFrom + i → getD w″ c 0 ≡ getD w′ c 0
-    other = stored-other w′ w″ i next (so-far .timed) (turn .below) wrote
-
-    ready : (k : ℕ) → k ≢ i → readyAt w″ k ≡ readyAt w′ k
-    ready k ne = other (readyFrom + k) (λ e. ne (omega arith))
-
-    shift-turn : (passed′ : ℕ) → Marking (passes w″ start j) old all passed′ rest′
-        → Shifting t w among start j old all w″ passed′ rest′
-    shift-turn passed′ marks =
-        let at : readyAt w i ≡ readyAt w′ i =
-        sym (so-far .same (readyFrom + i)
-        (λ k y n e. true-not-false (ap (has rest) {x = k} {y = i} (omega arith) ∙ turn .there) n)) in
-        record {
-          timed = stored-timed w′ w″ i next (so-far .timed) (turn .below) wrote next-early;
-          marks = marks;
-          fresh = so-far .fresh;
-          given = so-far .given;
-          fit =
-              λ k y n.
-              by-cases
-              (ℕ-discrete k i)
-              (λ e. rw (e, there, at) (fit-same t w w′ ends-kept (so-far .given i shifted) found))
-              (λ ne. rw (ready k ne) (so-far .fit k y (sym (turn .others k ne) ∙ n)));
-          same =
-              λ c ne. other c (λ e. ne i shifted (turn .gone) e)
-              ∙ so-far .same c
-              (λ k y n e. ne k y (by-bool (has rest′ k) (λ z. true-not-false (turn-has turn k z) n) (λ z. z)) e);
-        }
-
-    as-was : (k : ℕ) → k ≢ i → passes w′ start j k ≡ passes w″ start j k
-    as-was k ne = ap (λ (x : ℕ). isAhead x k start j) (sym (ready k ne))
-
-    now-passes : {r b : Bool} → r ≡ isAhead next i start j → r ≡ b → passes w″ start j i ≡ b
-    now-passes is e = ap (λ (x : ℕ). isAhead x i start j) there ∙ sym is ∙ e
-
-    pub shift-passed : {r : Bool} (passed′ : ℕ) → r ≡ isAhead next i start j → r ≡ true
-        → passed′ ≡ bitOr passed (2 ^ i)
-        → Shifting t w among start j old all w″ passed′ rest′
-    shift-passed passed′ is y e =
-        shift-turn passed′
-        (mark-with (passes w′ start j) old all (so-far .marks) turn (passes w″ start j) as-was passed′ (now-passes is y)
-        e)
-
-    pub shift-behind : {r : Bool} → r ≡ isAhead next i start j → r ≡ false
-        → Shifting t w among start j old all w″ passed rest′
-    shift-behind is n =
-        shift-turn passed
-        (mark-kept (passes w′ start j) old all (so-far .marks) turn (passes w″ start j) as-was
-        (so-far .fresh i shifted ∙ sym (now-passes is n)))
-
--- The frozen ones of the component of j, the start of j, what was passed outside the component, and what is shifted.
-pub record Parts (t : List ℕ) (l : Line) (w : List ℕ) (j among start old all : ℕ) : Type 0 where
-  pub settled : among ≡ bitAnd (frozenIn l) (componentAt t j)
+-- The end of j and its start, the live ones of its component, what was passed outside the component, and what is
+-- shifted.
+pub record Parts (t : List ℕ) (l : Line) (j : ℕ) (w : List ℕ) (end start live old all : ℕ) : Type 0 where
+  pub sets : Sets t w l
+  pub last : Last t w l j
+  pub lives : live ≡ bitAnd (l .live) (componentAt t j)
+  pub ended : end ≡ endAt w j
   pub begun : start ≡ startAt t w j
   pub outside : old ≡ bitXor (l .passed) (bitAnd (l .passed) (componentAt t j))
   pub others : all ≡ bitAnd (looseIn l) (componentAt t j)
 
-module _ {t : List ℕ} {l : Line} {w : List ℕ} {j among start old all : ℕ}
-    (parts : Parts t l w j among start old all) where
+module _ {t : List ℕ} {l : Line} {j : ℕ} {w : List ℕ} {end start live old all : ℕ}
+    (parts : Parts t l j w end start live old all) where
   shifted-is : (k : ℕ) → has all k ≡ isShifted t l j k
   shifted-is k = ap (λ (x : ℕ). has x k) (parts .others) ∙ has-and (looseIn l) (componentAt t j) k
 
   old-is : (k : ℕ) → has old k ≡ (has (l .passed) k && not (has (componentAt t j) k))
   old-is k = ap (λ (x : ℕ). has x k) (parts .outside) ∙ has-minus (l .passed) (componentAt t j) k
 
-  member : (k : ℕ) → has all k ≡ true → has (bitAnd (looseIn l) (componentAt t j)) k ≡ true
-  member k y = sym (ap (λ (x : ℕ). has x k) (parts .others)) ∙ y
+  member : (k : ℕ) → has all k ≡ true → (has (looseIn l) k ≡ true) × (has (componentAt t j) k ≡ true)
+  member k y = common-parts (looseIn l) (componentAt t j) k (sym (ap (λ (x : ℕ). has x k) (parts .others)) ∙ y)
 
-  pub shifting : Sets t w l → Shifting t w among start j old all w old all
-  shifting given =
+  fresh : (k : ℕ) → has all k ≡ true → has old k ≡ false
+  fresh k y =
+      old-is k ∙ ap (λ (b : Bool). has (l .passed) k && not b) (member k y .1) ∙ and-false (has (l .passed) k)
+
+  among : (k : ℕ) → has all k ≡ true → Among t w (settled t l j) k
+  among k y =
+      settled-among t l w (parts .sets) (componentAt t j) k (common-parts (l .placed) (l .left) k (member k y .0) .1)
+
+  pub live-low : live < 2 ^ most
+  live-low = omega (arith, parts .lives, common-low (l .live) (componentAt t j) (parts .last .live-low))
+
+  pub shifting : Shifting t l j w old all w old all
+  shifting =
+      let given = parts .sets in
       record {
         timed = given .timed;
         marks =
-            marking (passes w start j) old all
+            marking (passes w (startAt t w j) j) old all
             (omega (arith, parts .outside, minus-low (l .passed) (componentAt t j) (given .passed-low)))
             (omega (
               arith,
               parts .others,
               common-low (looseIn l) (componentAt t j) (common-low (l .placed) (l .left) (given .placed-low)),
             ));
-        fresh =
-            λ k y.
-            old-is k
-            ∙ ap (λ (b : Bool). has (l .passed) k && not b)
-            (common-parts (looseIn l) (componentAt t j) k (member k y) .1)
-            ∙ and-false (has (l .passed) k);
-        given =
-            λ k y.
-            rw (parts .settled)
-            (settled-among t l w given (componentAt t j) k
-            (common-parts (l .placed) (l .left) k (common-parts (looseIn l) (componentAt t j) k (member k y) .0) .1));
         fit = λ k y n. true-not-false y n;
         same = λ c ne. refl;
       }
 
-  pub shifted-all : {w′ : List ℕ} {passed rest : ℕ} → rest ≡ 0 → Shifting t w among start j old all w′ passed rest
-      → Shifts t l j w w′ passed
-  shifted-all {w′} {passed} {rest} none so-far =
-      record {
-        timed = so-far .timed;
-        low = so-far .marks .low;
-        fit =
-            λ k b y.
-            rw (parts .settled) at (so-far .fit k (shifted-is k ∙ y) (ap (λ (x : ℕ). has x k) none ∙ has-none k));
-        same =
-            λ c ne.
-            so-far .same c
-            (λ k y n e.
-            ne k (omega (arith, so-far .given k y .own, so-far .given k y .laid .acts)) (sym (shifted-is k) ∙ y) e);
-        passed =
-            λ k b.
-            marked (passes w′ start j) old all (so-far .marks) none k
-            ∙ ap₂ (λ (x : Bool) (y : ℕ). cond x (passes w′ y j k) (has old k)) (shifted-is k) (parts .begun)
-            ∙ ap (cond (isShifted t l j k) (passes w′ (startAt t w j) j k)) (old-is k);
-      }
+  -- There is room on a tick on which j does not run.
+  room-but : (k u : ℕ) → has all k ≡ true → readyAt w k ≤ u → u < readyAt w k + durationAt t k
+      → (u < startAt t w j) ⊎ (endAt w j ≤ u)
+      → hasRoomAt t w (settled t l j) k u ≡ true
+  room-but k u y from to not-j =
+      parts .last .room k (sym (shifted-is k) ∙ y) u from to
+      (by-bool (runsAt t w (frozenIn l) u j)
+      (λ on.
+      let runs = runs-is t w (frozenIn l) u u j on in
+      ⊎-elim (λ before. absurd (omega (arith, runs .begins))) (λ after. absurd (omega (arith, runs .ends))) not-j)
+      (λ n. n))
+
+  module _ {w′ : List ℕ} {passed rest : ℕ} (so-far : Shifting t l j w old all w′ passed rest) where
+    ends-kept : (k : ℕ) → k < most → endAt w′ k ≡ endAt w k
+    ends-kept k b = so-far .same k (λ i y n e. omega arith)
+
+    module _ (i : ℕ) (yet : has rest i ≡ true) where
+      shifted : has all i ≡ true
+      shifted = so-far .marks .inside i yet
+
+      not-yet : readyAt w′ i ≡ readyAt w i
+      not-yet =
+          so-far .same (readyFrom + i)
+          (λ k y n e. true-not-false (ap (has rest) {x = k} {y = i} (omega arith) ∙ yet) n)
+
+      pub shift-late : (x : ℕ) → x ≡ readyAt w′ i → ltb start (x + durationAt t i) ≡ true
+          → Late t w′ (settled t l j) live i x start
+      shift-late x is before =
+          let over : start < x + durationAt t i = ltb-true start (x + durationAt t i) before in
+          let below : (k : ℕ) → has (settled t l j) k ≡ true → k < most =
+          λ k y. frozen-below t l w (parts .sets) k (common-parts (frozenIn l) (componentAt t j) k y .0) in
+          record {
+            among = among-same t w w′ ends-kept (so-far .timed) (among i shifted);
+            within =
+                λ k y.
+                let (alive, near) =
+                common-parts (l .live) (componentAt t j) k (sym (ap (λ (x : ℕ). has x k) (parts .lives)) ∙ y) in
+                has-and (frozenIn l) (componentAt t j) k ∙ both (parts .last .frozen k alive) near;
+            kept =
+                λ k y later.
+                let (froze, near) = common-parts (frozenIn l) (componentAt t j) k y in
+                ap (λ (x : ℕ). has x k) (parts .lives)
+                ∙ has-and (l .live) (componentAt t j) k
+                ∙ both (parts .last .live k froze near (omega (arith, parts .begun, ends-kept k (below k y)))) near;
+            begun =
+                λ k y.
+                let (froze, near) = common-parts (frozenIn l) (componentAt t j) k y in
+                omega (arith, parts .begun, ends-kept k (below k y), parts .last .behind k froze near);
+            room =
+                λ u from to.
+                room-same t w w′ ends-kept (settled t l j) i u
+                ∙ room-but i u shifted (omega (arith, not-yet)) (omega (arith, not-yet))
+                (inl (omega (arith, parts .begun)));
+            over = over;
+          }
+
+      -- It is shifted to its next fit, or fits where it stands.
+      pub fitted : (w″ : List ℕ) (x next : ℕ) → x ≡ readyAt w′ i → NextFit t w′ (settled t l j) i x next
+          → w″ ≡ set w′ (readyFrom + i) next
+          → Fitted t l j w w′ w″ i
+      fitted w″ x next is found wrote =
+          let below : i < most = omega (arith, among i shifted .own, among i shifted .laid .acts) in
+          let timed = so-far .timed in
+          let early : next ≤ latestPossible =
+          by-cases
+          (ℕ-discrete next x)
+          (λ e. omega (arith, timed .times (readyFrom + i)))
+          (λ ne. let (k, y, e) = found .end ne in omega (arith, timed .times k)) in
+          record {
+            timed = stored-timed w′ w″ i next timed below wrote early;
+            fit =
+                rw (stored-there w′ w″ i next timed below wrote, sym not-yet, sym is)
+                (fit-same t w w′ ends-kept (among i shifted) found);
+            other = stored-other w′ w″ i next timed below wrote;
+          }
+
+      pub fits-still : (w″ : List ℕ) (x : ℕ) → x ≡ readyAt w′ i
+          → (end ≤ x) ⊎ (ltb start (x + durationAt t i) ≡ false)
+          → w″ ≡ w′
+          → Fitted t l j w w′ w″ i
+      fits-still w″ x is apart same =
+          record {
+            timed = rw same (so-far .timed);
+            fit =
+                rw (same, not-yet)
+                (record {
+                  fits =
+                      λ u from to.
+                      room-but i u shifted from to
+                      (⊎-elim
+                      (λ after. inr (omega (arith, parts .ended, not-yet)))
+                      (λ before.
+                      inl (omega (arith, parts .begun, not-yet, ltb-false start (x + durationAt t i) before)))
+                      apart);
+                  from = omega arith;
+                  end = λ ne. absurd (ne refl);
+                  none = λ z a b. absurd (omega arith);
+                });
+            other = λ c ne. ap (λ (v : List ℕ). getD v c 0) same;
+          }
+
+    module _ {rest′ i : ℕ} (turn : Turn rest rest′ i) {w″ : List ℕ} (now : Fitted t l j w w′ w″ i) where
+      ready : (k : ℕ) → k ≢ i → readyAt w″ k ≡ readyAt w′ k
+      ready k ne = now .other (readyFrom + k) (λ e. ne (omega arith))
+
+      shift-turn : (passed′ : ℕ) → Marking (passes w″ (startAt t w j) j) old all passed′ rest′
+          → Shifting t l j w old all w″ passed′ rest′
+      shift-turn passed′ marks =
+          record {
+            timed = now .timed;
+            marks = marks;
+            fit =
+                λ k y n.
+                by-cases
+                (ℕ-discrete k i)
+                (λ e. rw e (now .fit))
+                (λ ne. rw (ready k ne) (so-far .fit k y (sym (turn .others k ne) ∙ n)));
+            same =
+                λ c ne. now .other c (λ e. ne i (shifted i (turn .there)) (turn .gone) e)
+                ∙ so-far .same c
+                (λ k y n e. ne k y (by-bool (has rest′ k) (λ z. true-not-false (turn-has turn k z) n) (λ z. z)) e);
+          }
+
+      as-was : (k : ℕ) → k ≢ i → passes w′ (startAt t w j) j k ≡ passes w″ (startAt t w j) j k
+      as-was k ne = ap (λ (x : ℕ). isAhead x k (startAt t w j) j) (sym (ready k ne))
+
+      now-passes : {x : ℕ} {r b : Bool} → x ≡ readyAt w″ i → r ≡ isAhead x i start j → r ≡ b
+          → passes w″ (startAt t w j) j i ≡ b
+      now-passes is told e = ap₂ (λ (x y : ℕ). isAhead x i y j) (sym is) (sym (parts .begun)) ∙ sym told ∙ e
+
+      pub shift-passed : {x : ℕ} {r : Bool} (passed′ : ℕ) → x ≡ readyAt w″ i → r ≡ isAhead x i start j → r ≡ true
+          → passed′ ≡ bitOr passed (2 ^ i)
+          → Shifting t l j w old all w″ passed′ rest′
+      shift-passed passed′ is told y e =
+          shift-turn passed′
+          (mark-with (passes w′ (startAt t w j) j) old all (so-far .marks) turn (passes w″ (startAt t w j) j) as-was
+          passed′ (now-passes is told y) e)
+
+      pub shift-behind : {x : ℕ} {r : Bool} → x ≡ readyAt w″ i → r ≡ isAhead x i start j → r ≡ false
+          → Shifting t l j w old all w″ passed rest′
+      shift-behind is told n =
+          shift-turn passed
+          (mark-kept (passes w′ (startAt t w j) j) old all (so-far .marks) turn (passes w″ (startAt t w j) j) as-was
+          (fresh i (shifted i (turn .there)) ∙ sym (now-passes is told n)))
+
+    pub shifted-all : rest ≡ 0 → Shifts t l j w w′ passed
+    shifted-all none =
+        record {
+          timed = so-far .timed;
+          low = so-far .marks .low;
+          fit = λ k b y. so-far .fit k (shifted-is k ∙ y) (ap (λ (x : ℕ). has x k) none ∙ has-none k);
+          same =
+              λ c ne.
+              so-far .same c
+              (λ k y n e.
+              ne k (omega (arith, among k y .own, among k y .laid .acts)) (sym (shifted-is k) ∙ y) e);
+          passed =
+              λ k b.
+              marked (passes w′ (startAt t w j) j) old all (so-far .marks) none k
+              ∙ ap₂ (λ (x y : Bool). cond x (passes w′ (startAt t w j) j k) y) (shifted-is k) (old-is k);
+        }

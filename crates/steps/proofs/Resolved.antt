@@ -1,6 +1,6 @@
 -- The three ways in which the code freezes an activity: alone in its component, where no two of the component can run
 -- together, and where the others are shifted one by one.
-use Prim.Native.Nat.{ℕ, _+_, _-_, _≤_, _<_, max}
+use Prim.Native.Nat.{ℕ, _+_, _^_, _≤_, _<_, max}
 use native.Mathlib.Decide.{ℕ-discrete, decLe, decLt}
 use native.Mathlib.Nat.{le-antisymm}
 use native.Mathlib.Omega.{arith}
@@ -8,35 +8,33 @@ use mathlib.Core.Bool.{Bool, true, false, not, _&&_, _||_, and-true, and-false, 
 use mathlib.Core.List.{List}
 use mathlib.Core.Logic.{_≢_, _⊎_, ⊎-elim, inl, inr, by-cases}
 use mathlib.Core.Path.{_≡_, sym, ap, ap₂, _∙_}
-use lib.Bits.{bitAnd}
+use lib.Bits.{bitAnd, bitOr}
 use lib.Dec.{ltb, eqb}
 use lib.ListN.{getD, set, length-set}
 use lib.Seq.{getD-set-same, getD-set-other}
 use borrow.Author.Tests.{eqb-true, eq-eqb, ne-eqb, ltb-true, lt-ltb, le-ltb}
-use Rattle.base.specs.Below.{_implies_}
 use Rattle.base.proofs.Bools.{by-bool, true-not-false, both, and-left, and-right, cond-true, cond-false}
-use Rattle.base.proofs.Below.{every-of, implies-intro}
 use Rattle.sets.specs.Sets.{most, has}
-use Rattle.sets.proofs.Laws.{has-and, has-above}
+use Rattle.sets.proofs.Laws.{has-and, has-with, has-above}
 use Rattle.schedule.proofs.Load.{Has}
 use Rattle.branching.proofs.Room.{Room, Soonest, adding, adding-new, adding-old, adding-other}
-use Rattle.scan.specs.Scan.{Diagram}
-use Rattle.unit_scan.specs.Scan.{isAhead, isNext, freeze, shift, select}
-use Rattle.unit_scan_exact.proofs.Standing.{Standing, ends-late}
-use Rattle.unit_scan_exact.proofs.Selected.{select-kept, select-off, select-frozen, room-back}
+use Rattle.scan.specs.Scan.{Diagram, isAhead, isNext, freeze, shift, select}
+use Rattle.scan_exact.proofs.Standing.{Standing, ends-late}
+use Rattle.scan_exact.proofs.Selected.{select-kept, select-off, select-frozen, room-back}
 use Rattle.instance.specs.Instance.{ownOf, isTight, Instance}
 use Rattle.instance.proofs.Own.{own-is}
 use Rattle.instance.specs.Table.{actsOf, durationAt, componentAt, ownAt, tightOf, projectIn}
 use Rattle.profile.specs.Work.{endAt, readyAt, freeAt, startAt, freeFrom}
 use Rattle.profile.specs.Room.{NextFit}
-use Rattle.steps.specs.Steps.{Sets, Shifts, frozenIn, looseIn, finishAt, isShifted, selectedLine}
+use Rattle.steps.specs.Steps.{Sets, Lives, Shifts, frozenIn, looseIn, finishAt, isShifted, selectedLine}
 use Rattle.steps.specs.Steps as steps
 use Rattle.steps.specs.Shown.{Shows}
 use Rattle.steps.specs.declared.Line.{Line}
 use Rattle.steps.proofs.Own.{component-has, component-is, tight-with}
 use Rattle.steps.proofs.Given.{scannable}
-use Rattle.steps.proofs.Free.{Covers, room-fits, fits-room, alone-fits, tight-alone, tight-after}
+use Rattle.steps.proofs.Free.{Covers, room-fits, fits-room, alone-fits, tight-alone, tight-after, tight-next}
 use Rattle.steps.proofs.Sets.{loose-is, loose-shown}
+use Rattle.steps.proofs.Live.{lives-own, lives-off, lives-behind, lives-is}
 use Rattle.steps.proofs.Selected.{after, next-same, next-is, Freezes, frozen-now, loose-now, loose-still}
 
 both-false : (a b : Bool) → a ≡ false → b ≡ false → (a || b) ≡ false
@@ -110,7 +108,8 @@ module _ (t : List ℕ) (given : Instance t) (l : Line) (w : List ℕ) (d : Diag
   own-other i k li lk ne e = ne (sym (own-is t (given .laid) i li) ∙ e ∙ own-is t (given .laid) k lk)
 
   tight-acts : (i : ℕ) → has (tightOf t) i ≡ true → i < actsOf t
-  tight-acts i y = ltb-true i (actsOf t) (and-left (ltb i (actsOf t)) (isTight t (ownOf t i)) (sym (given .laid .tight i) ∙ y))
+  tight-acts i y =
+      ltb-true i (actsOf t) (and-left (ltb i (actsOf t)) (isTight t (ownOf t i)) (sym (given .laid .tight i) ∙ y))
 
   -- Where the working array only gains the end of j.
   module _ (w′ : List ℕ) (own-end : endAt w′ j ≡ finishAt t w j)
@@ -139,6 +138,33 @@ module _ (t : List ℕ) (given : Instance t) (l : Line) (w : List ℕ) (d : Diag
         ⊎-elim (λ le. inl (omega (arith, le, e, frees (ownAt t i)))) (λ le. inr (omega (arith, le, e)))
         (shows .tight i (sym (shows .frozen i) ∙ f) y)
 
+  -- What was live, where the working array gains the end of j.
+  abbrev Stays : List ℕ → ℕ → ℕ → Type 0
+  Stays w′ live k =
+      (has live k ≡ true)
+      ⊎ ((i : ℕ) × (adding (d .frozen) j i ≡ true) × (ownAt t i ≡ ownAt t k) × (endAt w′ k ≤ startAt t w′ i))
+
+  same-live : (w′ : List ℕ) → ((i : ℕ) → i < most → i ≢ j → endAt w′ i ≡ endAt w i) → (live k : ℕ)
+      → adding (d .frozen) j k ≡ true
+      → has (tightOf t) k ≡ false
+      → (k ≡ j → Stays w′ live k)
+      → (d .frozen k ≡ true → has (l .live) k ≡ true → Stays w′ live k)
+      → Stays w′ live k
+  same-live w′ ends live k g z own-live still =
+      by-cases (ℕ-discrete k j) own-live
+      (λ ne.
+      let f : d .frozen k ≡ true = old-of k ne g in
+      let same : (i : ℕ) → d .frozen i ≡ true → endAt w′ i ≡ endAt w i =
+      λ i fi. ends i (omega (arith, frozen-acts i fi, few)) (frozen-not i fi) in
+      ⊎-elim (still f)
+      (λ (i, y, own, le).
+      let fi : d .frozen i ≡ true = shows .frozen i ∙ y in
+      inr (i, adding-old (d .frozen) j i fi, own, omega (arith, le, same k f, same i fi)))
+      (shows .live k (sym (shows .frozen k) ∙ f) z))
+
+  live-old : (k : ℕ) → has (l .live) k ≡ true → adding (d .frozen) j k ≡ true
+  live-old k y = adding-old (d .frozen) j k (shows .frozen k ∙ shows .live-frozen k y)
+
   -- Alone in its component, and it ends on the scan-line.
   module _ (alone : (i : ℕ) → has (looseIn l) i ≡ true → i ≢ j → ownOf t i ≢ ownOf t j)
       (direct : finishAt t w j ≡ l .tick) (w′ : List ℕ) (stored : w′ ≡ set w j (l .tick)) where
@@ -157,7 +183,8 @@ module _ (t : List ℕ) (given : Instance t) (l : Line) (w : List ℕ) (d : Diag
     cell-ready : (i : ℕ) → readyAt w′ i ≡ readyAt w i
     cell-ready i = cells (32 + i) (λ e. omega (arith, e, loose-acts j loose-j, few))
 
-    pub freezes-alone : Freezes t given l w d shows standing sets j loose-j early next due (l .passed) w′
+    pub freezes-alone :
+        Freezes t given l w d shows standing sets j loose-j early next due (l .passed) (bitOr (l .live) (2 ^ j)) w′
     freezes-alone =
         record {
           end = cell-j;
@@ -178,6 +205,21 @@ module _ (t : List ℕ) (given : Instance t) (l : Line) (w : List ℕ) (d : Diag
           freed = same-free w′ cell-j (λ i b ne. cells i ne) cell-free;
           readied = λ i y ne tight. omega (arith, cell-ready i, shows .readied i y tight);
           roomy = λ i b z. cell-free (ownAt t i) ∙ shows .roomy i b z;
+          lives =
+              λ k g z.
+              same-live w′ (λ i b ne. cells i ne) (bitOr (l .live) (2 ^ j)) k g z
+              (λ e.
+              inl
+              (has-with (l .live) j k ∙ ap (λ (x : Bool). has (l .live) k || x) (eq-eqb k j e)
+              ∙ or-true (has (l .live) k)))
+              (λ f y. inl (has-with (l .live) j k ∙ ap (λ (x : Bool). x || eqb k j) y));
+          live-frozen =
+              λ k y.
+              by-bool (has (l .live) k) (live-old k)
+              (λ z.
+              ap (adding (d .frozen) j)
+              (eqb-true k j (sym (ap (λ (x : Bool). x || eqb k j) z) ∙ sym (has-with (l .live) j k) ∙ y))
+              ∙ adding-new (d .frozen) j);
         }
 
   -- No two of the component can run together.
@@ -204,31 +246,6 @@ module _ (t : List ℕ) (given : Instance t) (l : Line) (w : List ℕ) (d : Diag
       tight-i =
           tight-with t (given .laid) j i (loose-acts j loose-j) (loose-acts i loose-i) on tight-j
 
-      -- It starts after all that is frozen in the component.
-      after-frozen : (k : ℕ) → d .frozen k ≡ true → comp k ≡ comp i → endAt w k ≤ d .starts i
-      after-frozen k f same =
-          omega (arith, shown-end k f, tight-after t given d (d .tick) standing i there-i waits-i tight-i k f same)
-
-      pub tight-next : isNext (projectIn t) comp d i ≡ true
-      unfolding projectIn
-      tight-next =
-          every-of (actsOf t)
-          (λ k.
-          (d .frozen k && true && eqb (comp k) (comp i))
-          implies isAhead (projectIn t) comp (d .starts k) k (d .starts i) i)
-          (λ k lk.
-          implies-intro (d .frozen k && true && eqb (comp k) (comp i))
-          (isAhead (projectIn t) comp (d .starts k) k (d .starts i) i)
-          (λ y.
-          let f : d .frozen k ≡ true =
-          and-left (d .frozen k) true (and-left (d .frozen k && true) (eqb (comp k) (comp i)) y) in
-          let same : comp k ≡ comp i =
-          eqb-true (comp k) (comp i) (and-right (d .frozen k && true) (eqb (comp k) (comp i)) y) in
-          let less : d .starts k < d .starts i =
-          omega (arith, after-frozen k f same, shown-end k f, given .laid .long k lk) in
-          ap (λ (x : Bool). x || (eqb (d .starts k) (d .starts i) && ltb k i))
-          (lt-ltb (d .starts k) (d .starts i) less)))
-
       -- It stood before the end of j, and starts there now.
       before-end : d .starts i ≤ end
       before-end =
@@ -238,7 +255,8 @@ module _ (t : List ℕ) (given : Instance t) (l : Line) (w : List ℕ) (d : Diag
           (λ (k, f, own, e).
           let fk : d .frozen k ≡ true = shows .frozen k ∙ f in
           let same : comp k ≡ comp j =
-          sym (own-is t (given .laid) k (frozen-acts k fk)) ∙ own ∙ own-is t (given .laid) i (loose-acts i loose-i) ∙ on in
+          sym (own-is t (given .laid) k (frozen-acts k fk)) ∙ own ∙ own-is t (given .laid) i (loose-acts i loose-i)
+          ∙ on in
           omega (
             arith,
             shows .loose i loose-i,
@@ -364,7 +382,7 @@ module _ (t : List ℕ) (given : Instance t) (l : Line) (w : List ℕ) (d : Diag
       end-other : (i : ℕ) → i < most → i ≢ j → endAt w′ i ≡ endAt w i
       end-other i b ne = cells-but i ne (λ e. omega (arith, e, b))
 
-      pub freezes-tight : Freezes t given l w d shows standing sets j loose-j early next due (l .passed) w′
+      pub freezes-tight : Freezes t given l w d shows standing sets j loose-j early next due (l .passed) (l .live) w′
       freezes-tight =
           record {
             end = end-cell;
@@ -385,13 +403,15 @@ module _ (t : List ℕ) (given : Instance t) (l : Line) (w : List ℕ) (d : Diag
                 ))
                 (λ other.
                 off i other ∙ shows .loose i y
-                ∙ ap₂ (λ (a b : ℕ). max a b) (sym (ready-cell i (omega (arith, li, few)))) (sym (free-other i li other)));
+                ∙ ap₂ (λ (a b : ℕ). max a b) (sym (ready-cell i (omega (arith, li, few))))
+                (sym (free-other i li other)));
             passes =
                 λ i y ne.
                 by-cases (ℕ-discrete (comp i) (comp j))
                 (λ on.
                 shows .passed i y
-                ∙ ap not (tight-next i y ne on)
+                ∙ ap not
+                (tight-next t given d (d .tick) standing i (there-i i y ne on) (waits-i i y ne on) (tight-i i y ne on))
                 ∙ ap not
                 (sym
                 (next-is t given l w d shows standing sets j loose-j early next i on
@@ -457,19 +477,24 @@ module _ (t : List ℕ) (given : Instance t) (l : Line) (w : List ℕ) (d : Diag
                 by-cases (ℕ-discrete (comp i) (comp j))
                 (λ on. true-not-false (tight-with t (given .laid) j i acts-j li on tight-j) z)
                 (λ other. free-other i li other ∙ shows .roomy i li z);
+            lives =
+                λ k g z.
+                same-live w′ end-other (l .live) k g z
+                (λ e. true-not-false tight-j (sym (ap (has (tightOf t)) e) ∙ z)) (λ f y. inl y);
+            live-frozen = live-old;
           }
 
   -- The others of the component are shifted one by one.
-  module _ (roomy-j : has (tightOf t) j ≡ false) (w₁ w′ : List ℕ) (stored : w₁ ≡ set w j (finishAt t w j)) (r : ℕ)
-      (shifts : Shifts t (selectedLine l j due (l .passed)) j w₁ w′ r) where
+  module _ (roomy-j : has (tightOf t) j ≡ false) (w₁ w′ : List ℕ) (stored : w₁ ≡ set w j (finishAt t w j)) (r live : ℕ)
+      (lives : Lives t w₁ (l .live) j live) (shifts : Shifts t (selectedLine l j due (l .passed) live) j w₁ w′ r) where
     abbrev now : Line
-    now = selectedLine l j due (l .passed)
+    now = selectedLine l j due (l .passed) live
 
     below-j : j < actsOf t
     below-j = loose-acts j loose-j
 
     set-now : (k : ℕ) → has (frozenIn now) k ≡ adding (d .frozen) j k
-    set-now = frozen-now t given l w d shows standing sets j loose-j early next due (l .passed)
+    set-now = frozen-now t given l w d shows standing sets j loose-j early next due (l .passed) live
 
     -- The working array once j is frozen.
     first-end : endAt w₁ j ≡ finishAt t w j
@@ -502,13 +527,13 @@ module _ (t : List ℕ) (given : Instance t) (l : Line) (w : List ℕ) (d : Diag
     -- What is shifted.
     shifted-of : (i : ℕ) → has (looseIn l) i ≡ true → i ≢ j → comp i ≡ comp j → isShifted t now j i ≡ true
     shifted-of i y ne on =
-        both (loose-still t given l w d shows standing sets j loose-j early next due (l .passed) i y ne)
+        both (loose-still t given l w d shows standing sets j loose-j early next due (l .passed) live i y ne)
         (component-has t (given .laid) j i below-j (loose-acts i y) on)
 
     shifted-on : (i : ℕ) → isShifted t now j i ≡ true → (has (looseIn l) i ≡ true) × (i ≢ j) × (comp i ≡ comp j)
     shifted-on i y =
         let (old, ne) =
-        loose-now t given l w d shows standing sets j loose-j early next due (l .passed) i
+        loose-now t given l w d shows standing sets j loose-j early next due (l .passed) live i
         (and-left (has (looseIn now) i) (has (componentAt t j) i) y) in (
           old,
           ne,
@@ -601,7 +626,8 @@ module _ (t : List ℕ) (given : Instance t) (l : Line) (w : List ℕ) (d : Diag
                 );
             fits =
                 λ u r b from to.
-                room-fits t given then (then .tick) stands w₁ ended among-set i u has-at (covers u) (fit .fits u from to) r b;
+                room-fits t given then (then .tick) stands w₁ ended among-set i u has-at (covers u)
+                (fit .fits u from to) r b;
           }
 
       pub shift-starts : then .starts i ≡ readyAt w′ i
@@ -648,7 +674,7 @@ module _ (t : List ℕ) (given : Instance t) (l : Line) (w : List ℕ) (d : Diag
         (both-false (ltb a b) (eqb a b && ltb i j) (le-ltb a b (omega (arith, e)))
         (ap (λ (x : Bool). eqb a b && x) (le-ltb i j (omega (arith, le))) ∙ and-false (eqb a b))))))
 
-    pub freezes-shift : Freezes t given l w d shows standing sets j loose-j early next due r w′
+    pub freezes-shift : Freezes t given l w d shows standing sets j loose-j early next due r live w′
     freezes-shift =
         record {
           end = last-end j (omega (arith, below-j, few)) ∙ first-end;
@@ -715,12 +741,39 @@ module _ (t : List ℕ) (given : Instance t) (l : Line) (w : List ℕ) (d : Diag
               λ on. true-not-false tight (roomy-with i (loose-acts i y) on) in
               omega (arith, last-ready i other, shows .readied i y tight);
           roomy = λ i li z. last-free (ownAt t i) ∙ shows .roomy i li z;
+          lives =
+              λ k g z.
+              same-live w′ (λ i b ne. last-end i b ∙ first-cells i ne) live k g z
+              (λ e. inl (ap (has live) e ∙ lives-own lives)) (stays k);
+          live-frozen =
+              λ k y.
+              ⊎-elim (λ e. ap (adding (d .frozen) j) e ∙ adding-new (d .frozen) j) (live-old k) (lives-is lives k y);
         }
       where
-        start-j : startAt t w₁ j ≡ d .starts j
-        start-j = omega (arith, first-end, end-is)
-
         component-not : (i : ℕ) → comp i ≢ comp j → has (componentAt t j) i ≡ false
         component-not i other =
             by-bool (has (componentAt t j) i)
             (λ y. absurd (other (component-is t (given .laid) j i below-j y))) (λ z. z)
+
+        stays : (k : ℕ) → d .frozen k ≡ true → has (l .live) k ≡ true → Stays w′ live k
+        stays k f y =
+            let lk : k < actsOf t = frozen-acts k f in
+            by-cases (ℕ-discrete (comp k) (comp j))
+            (λ on.
+            by-cases (decLt (startAt t w₁ j) (endAt w₁ k)) (λ lt. inl (lives-behind lives k y lt))
+            (λ ge.
+            inr (
+              j,
+              adding-new (d .frozen) j,
+              own-same j k below-j lk (sym on),
+              omega (
+                arith,
+                ge,
+                last-end j (omega (arith, below-j, few)),
+                last-end k (omega (arith, lk, few)),
+              ),
+            )))
+            (λ other. inl (lives-off lives k y (component-not k other)))
+
+        start-j : startAt t w₁ j ≡ d .starts j
+        start-j = omega (arith, first-end, end-is)

@@ -1,6 +1,6 @@
 -- Step 3 of the code is that of the scan: an activity that is placed and not frozen and starts before the scan-line is
 -- frozen where it stands, and what else is placed in its component starts at its next fit.
-use Prim.Native.Nat.{ℕ, _+_, _-_, _≤_, _<_}
+use Prim.Native.Nat.{ℕ, _+_, _≤_, _<_}
 use native.Mathlib.Decide.{ℕ-discrete}
 use native.Mathlib.Omega.{arith}
 use mathlib.Core.Bool.{Bool, true, false, not, _&&_, and-true, and-false}
@@ -17,13 +17,12 @@ use Rattle.sets.proofs.Laws.{has-minus, has-without}
 use Rattle.schedule.proofs.Load.{Has}
 use Rattle.branching.proofs.Room.{adding, adding-new, adding-other}
 use Rattle.branching.proofs.Under.{Ahead, ahead-is, ahead-of}
-use Rattle.scan.specs.Scan.{Diagram}
-use Rattle.unit_scan.specs.Scan.{isAhead, isNext, freeze, shift, select}
-use Rattle.unit_scan_exact.proofs.Standing.{Standing}
-use Rattle.unit_scan_exact.proofs.Selected.{select-frozen, select-kept, select-off, select-standing}
+use Rattle.scan.specs.Scan.{Diagram, isAhead, isNext, freeze, shift, select}
+use Rattle.scan_exact.proofs.Standing.{Standing}
+use Rattle.scan_exact.proofs.Selected.{select-frozen, select-kept, select-off, select-standing}
 use Rattle.instance.specs.Instance.{ownOf, Instance}
 use Rattle.instance.specs.Table.{actsOf, presentOf, durationAt, ownAt, tightOf, projectIn}
-use Rattle.profile.specs.Work.{endAt, readyAt, freeAt, soonAt}
+use Rattle.profile.specs.Work.{endAt, readyAt, freeAt, startAt, soonAt}
 use Rattle.steps.specs.Steps.{Sets, frozenIn, looseIn, finishAt, selectedLine}
 use Rattle.steps.specs.Shown.{Shows}
 use Rattle.steps.specs.declared.Line.{Line}
@@ -88,7 +87,9 @@ module _ (t : List ℕ) (given : Instance t) (l : Line) (w : List ℕ) (d : Diag
       (implies-elim (d .frozen k && true && eqb (comp k) (comp j))
       (isAhead (projectIn t) comp (d .starts k) k (d .starts j) j)
       (every-at (actsOf t)
-      (λ m. (d .frozen m && true && eqb (comp m) (comp j)) implies isAhead (projectIn t) comp (d .starts m) m (d .starts j) j)
+      (λ m.
+      (d .frozen m && true && eqb (comp m) (comp j))
+      implies isAhead (projectIn t) comp (d .starts m) m (d .starts j) j)
       next k (below-of k (standing .inside k (standing .within k f))))
       (both (both f refl) (eq-eqb (comp k) (comp j) on)))
 
@@ -113,7 +114,8 @@ module _ (t : List ℕ) (given : Instance t) (l : Line) (w : List ℕ) (d : Diag
       (adding-other (d .frozen) j k (λ e. apart (ap comp e))) (off k apart)
       ∙ ap
       (λ (b : ℕ).
-      (d .frozen k && projectIn t .free k && eqb (comp k) (comp i)) implies isAhead (projectIn t) comp (d .starts k) k b i)
+      (d .frozen k && projectIn t .free k && eqb (comp k) (comp i))
+      implies isAhead (projectIn t) comp (d .starts k) k b i)
       (off i other))
       (λ ne.
       let no : (e : Diagram) → after-all e i k ≡ true =
@@ -121,7 +123,9 @@ module _ (t : List ℕ) (given : Instance t) (l : Line) (w : List ℕ) (d : Diag
       implies-intro (e .frozen k && projectIn t .free k && eqb (comp k) (comp i))
       (isAhead (projectIn t) comp (e .starts k) k (e .starts i) i)
       (λ y.
-      absurd (ne (eqb-true (comp k) (comp i) (and-right (e .frozen k && projectIn t .free k) (eqb (comp k) (comp i)) y)))) in
+      absurd
+      (ne
+      (eqb-true (comp k) (comp i) (and-right (e .frozen k && projectIn t .free k) (eqb (comp k) (comp i)) y)))) in
       no then ∙ sym (no d)))
 
   pub next-is : (i : ℕ) → ownOf t i ≡ ownOf t j
@@ -163,9 +167,9 @@ module _ (t : List ℕ) (given : Instance t) (l : Line) (w : List ℕ) (d : Diag
       })))))
 
   -- The line and the working array with j frozen.
-  module _ (due passed : ℕ) where
+  module _ (due passed live : ℕ) where
     abbrev now : Line
-    now = selectedLine l j due passed
+    now = selectedLine l j due passed live
 
     left-j : has (l .left) j ≡ true
     left-j = loose-is l j loose-j .1
@@ -181,7 +185,7 @@ module _ (t : List ℕ) (given : Instance t) (l : Line) (w : List ℕ) (d : Diag
     left-gone =
         left-now j ∙ ap (λ (x : Bool). has (l .left) j && not x) (eq-eqb j j refl) ∙ and-false (has (l .left) j)
 
-    pub frozen-now : (i : ℕ) → has (frozenIn (selectedLine l j due passed)) i ≡ adding (d .frozen) j i
+    pub frozen-now : (i : ℕ) → has (frozenIn (selectedLine l j due passed live)) i ≡ adding (d .frozen) j i
     frozen-now i =
         by-cases (ℕ-discrete i j)
         (λ e. rw e (frozen-of now j (loose-is l j loose-j .0) left-gone ∙ sym (adding-new (d .frozen) j)))
@@ -192,14 +196,15 @@ module _ (t : List ℕ) (given : Instance t) (l : Line) (w : List ℕ) (d : Diag
         ∙ sym (shows .frozen i)
         ∙ sym (adding-other (d .frozen) j i ne))
 
-    pub loose-now : (i : ℕ) → has (looseIn (selectedLine l j due passed)) i ≡ true
+    pub loose-now : (i : ℕ) → has (looseIn (selectedLine l j due passed live)) i ≡ true
         → (has (looseIn l) i ≡ true) × (i ≢ j)
     loose-now i y =
         let (placed, left) = loose-is now i y in
         let ne : i ≢ j = λ e. true-not-false left (ap (has (now .left)) e ∙ left-gone) in
         (loose-of l i placed (sym (left-other i ne) ∙ left), ne)
 
-    pub loose-still : (i : ℕ) → has (looseIn l) i ≡ true → i ≢ j → has (looseIn (selectedLine l j due passed)) i ≡ true
+    pub loose-still : (i : ℕ) → has (looseIn l) i ≡ true → i ≢ j
+        → has (looseIn (selectedLine l j due passed live)) i ≡ true
     loose-still i y ne = let (placed, left) = loose-is l i y in loose-of now i placed (left-other i ne ∙ left)
 
     -- What the working array has to show.
@@ -218,6 +223,10 @@ module _ (t : List ℕ) (given : Instance t) (l : Line) (w : List ℕ) (d : Diag
           ⊎ ((k : ℕ) × (adding (d .frozen) j k ≡ true) × (ownAt t k ≡ ownAt t i) × (endAt w′ k ≡ freeAt w′ (ownAt t i)))
       pub readied : (i : ℕ) → has (looseIn l) i ≡ true → i ≢ j → has (tightOf t) i ≡ true → readyAt w′ i ≤ l .tick
       pub roomy : (i : ℕ) → i < actsOf t → has (tightOf t) i ≡ false → freeAt w′ (ownAt t i) ≡ 0
+      pub lives : (k : ℕ) → adding (d .frozen) j k ≡ true → has (tightOf t) k ≡ false
+          → (has live k ≡ true)
+          ⊎ ((i : ℕ) × (adding (d .frozen) j i ≡ true) × (ownAt t i ≡ ownAt t k) × (endAt w′ k ≤ startAt t w′ i))
+      pub live-frozen : (k : ℕ) → has live k ≡ true → adding (d .frozen) j k ≡ true
 
     frozen-below : (i : ℕ) → d .frozen i ≡ true → i < most
     frozen-below i f =
@@ -238,7 +247,7 @@ module _ (t : List ℕ) (given : Instance t) (l : Line) (w : List ℕ) (d : Diag
         ))
 
     pub shows-select : (w′ : List ℕ) → Freezes w′
-        → Shows t (selectedLine l j due passed) w′ (select (projectIn t) (ownOf t) d j)
+        → Shows t (selectedLine l j due passed live) w′ (select (projectIn t) (ownOf t) d j)
     shows-select w′ freezes =
         record {
           tick = same-tick ∙ shows .tick;
@@ -268,4 +277,9 @@ module _ (t : List ℕ) (given : Instance t) (l : Line) (w : List ℕ) (d : Diag
               ⊎-elim (λ none. inl none) (λ (k, f, own, end). inr (k, frozen-now k ∙ f, own, end)) (freezes .freed i y);
           readied = λ i y. let (old, ne) = loose-now i y in freezes .readied i old ne;
           roomy = freezes .roomy;
+          live =
+              λ k y z.
+              ⊎-elim (λ on. inl on) (λ (i, f, own, end). inr (i, frozen-now i ∙ f, own, end))
+              (freezes .lives k (sym (frozen-now k) ∙ y) z);
+          live-frozen = λ k y. frozen-now k ∙ freezes .live-frozen k y;
         }

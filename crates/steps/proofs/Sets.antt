@@ -8,7 +8,7 @@ use Rattle.base.proofs.Bools.{by-bool, true-not-false, both, and-left, and-righ
 use Rattle.sets.specs.Sets.{has}
 use Rattle.sets.proofs.Laws.{has-and, has-minus}
 use Rattle.scan.specs.Scan.{Diagram}
-use Rattle.unit_scan_exact.proofs.Standing.{Standing}
+use Rattle.scan_exact.proofs.Standing.{Standing}
 use Rattle.instance.specs.Instance.{Instance}
 use Rattle.instance.specs.Table.{presentOf, projectIn}
 use Rattle.steps.specs.Steps.{frozenIn, runningIn, waitingIn, looseIn}

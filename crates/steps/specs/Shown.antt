@@ -6,10 +6,10 @@ use mathlib.Core.Logic.{_⊎_}
 use mathlib.Core.Path.{_≡_}
 use Rattle.sets.specs.Sets.{has}
 use Rattle.scan.specs.Scan.{Diagram}
-use Rattle.unit_scan.specs.Scan.{isNext}
+use Rattle.scan.specs.Scan.{isNext}
 use Rattle.instance.specs.Instance.{ownOf}
 use Rattle.instance.specs.Table.{actsOf, presentOf, durationAt, ownAt, tightOf, projectIn}
-use Rattle.profile.specs.Work.{endAt, readyAt, freeAt, soonAt}
+use Rattle.profile.specs.Work.{endAt, readyAt, freeAt, startAt, soonAt}
 use Rattle.steps.specs.Steps.{frozenIn, looseIn}
 use Rattle.steps.specs.declared.Line.{Line}
 
@@ -33,3 +33,8 @@ pub record Shows (t : List ℕ) (l : Line) (w : List ℕ) (d : Diagram) : Type 0
   pub readied : (i : ℕ) → has (looseIn l) i ≡ true → has (tightOf t) i ≡ true → readyAt w i ≤ l .tick
   -- Any other is kept free.
   pub roomy : (i : ℕ) → i < actsOf t → has (tightOf t) i ≡ false → freeAt w (ownAt t i) ≡ 0
+  -- There a frozen one is live, or it ends by the start of another frozen one of its component.
+  pub live : (k : ℕ) → has (frozenIn l) k ≡ true → has (tightOf t) k ≡ false
+      → (has (l .live) k ≡ true)
+      ⊎ ((j : ℕ) × (has (frozenIn l) j ≡ true) × (ownAt t j ≡ ownAt t k) × (endAt w k ≤ startAt t w j))
+  pub live-frozen : (k : ℕ) → has (l .live) k ≡ true → has (frozenIn l) k ≡ true

@@ -1,6 +1,6 @@
 -- The steps of a move on the sets of a line and the working array.
 use Prim.Native.Nat.{ℕ, _+_, _-_, _^_, _≤_, _<_}
-use mathlib.Core.Bool.{Bool, true, not, cond, _&&_, _||_}
+use mathlib.Core.Bool.{Bool, true, false, not, cond, _&&_, _||_}
 use mathlib.Core.List.{List}
 use mathlib.Core.Logic.{_⊎_}
 use mathlib.Core.Path.{_≡_}
@@ -11,8 +11,8 @@ use Rattle.plan.specs.Limits.{wordValues}
 use Rattle.sets.specs.Sets.{most, has, meet}
 use Rattle.instance.specs.Instance.{Laid}
 use Rattle.instance.specs.Table.{actsOf, durationAt, predsAt, componentAt, ownAt, tightOf}
-use Rattle.profile.specs.Work.{endAt, readyAt, freeAt, startAt, soonAt, readyFrom, freeFrom, Timed}
-use Rattle.profile.specs.Room.{hasRoomAt, NextFit}
+use Rattle.profile.specs.Work.{endAt, readyAt, freeAt, startAt, soonAt, readyFrom, Timed}
+use Rattle.profile.specs.Room.{runsAt, hasRoomAt, NextFit}
 use Rattle.steps.specs.declared.Line.{Line}
 use Rattle.steps.specs.declared.Stop.{Stop}
 
@@ -36,19 +36,43 @@ looseIn l = bitAnd (l .placed) (l .left)
 -- The line with r for T, and for what is placed.
 abbrev pub deletedLine : Line → ℕ → Line
 deletedLine l r =
-    record { tick = l .tick; placed = l .placed; left = l .left; term = r; due = l .due; passed = l .passed }
+    record {
+      tick = l .tick;
+      placed = l .placed;
+      left = l .left;
+      term = r;
+      due = l .due;
+      passed = l .passed;
+      live = l .live;
+    }
 
 abbrev pub attachedLine : Line → ℕ → Line
 attachedLine l r =
-    record { tick = l .tick; placed = r; left = l .left; term = l .term; due = l .due; passed = l .passed }
+    record {
+      tick = l .tick;
+      placed = r;
+      left = l .left;
+      term = l .term;
+      due = l .due;
+      passed = l .passed;
+      live = l .live;
+    }
 
--- The line with j frozen, what it has passed, and the components still to be resolved.
-abbrev pub selectedLine : Line → ℕ → ℕ → ℕ → Line
-selectedLine l j due passed =
-    record { tick = l .tick; placed = l .placed; left = l .left - 2 ^ j; term = l .term; due = due; passed = passed }
+-- The line with j frozen, what it has passed, what is live, and the components still to be resolved.
+abbrev pub selectedLine : Line → ℕ → ℕ → ℕ → ℕ → Line
+selectedLine l j due passed live =
+    record {
+      tick = l .tick;
+      placed = l .placed;
+      left = l .left - 2 ^ j;
+      term = l .term;
+      due = due;
+      passed = passed;
+      live = live;
+    }
 
--- What the steps are given: the sets of the line are sets of activities, what is frozen has run its duration, and what is
--- in T is frozen or left.
+-- What the steps are given: the sets of the line are sets of activities, what is frozen has run its duration, and what
+-- is in T is frozen or left.
 pub record Sets (t w : List ℕ) (l : Line) : Type 0 where
   pub laid : Laid t
   pub timed : Timed w
@@ -57,6 +81,7 @@ pub record Sets (t w : List ℕ) (l : Line) : Type 0 where
   pub term-low : l .term < 2 ^ most
   pub due-low : l .due < 2 ^ most
   pub passed-low : l .passed < 2 ^ most
+  pub live-low : l .live < 2 ^ most
   pub placed : (i : ℕ) → has (l .placed) i ≡ true → i < actsOf t
   pub left : (i : ℕ) → has (l .left) i ≡ true → i < actsOf t
   pub term : (i : ℕ) → has (runningIn l) i ≡ true → has (l .placed) i ≡ true
@@ -82,22 +107,13 @@ pub record FirstStop (t w : List ℕ) (set first : ℕ) (r : Stop) : Type 0 wher
       → (i : ℕ) × (has set i ≡ true) × (r .tick ≡ finishAt t w i) × (ownAt t i ≡ c)
 
 -- The line at that stop.
-pub record Moves (t w : List ℕ) (l r : Line) : Type 0 where
-  pub first : ℕ
-  pub running : FirstEnd w (runningIn l) first
+pub record Moves (t w : List ℕ) (l : Line) (first : ℕ) (r : Line) : Type 0 where
   pub stop : FirstStop t w (looseIn l) first (record { tick = r .tick; due = r .due })
   pub placed : r .placed ≡ l .placed
   pub left : r .left ≡ l .left
   pub term : r .term ≡ l .term
   pub passed : r .passed ≡ l .passed
-
--- Step 3: the working array with j frozen at a tick, and, where no two of its component can run together, its component
--- free from then on.
-abbrev pub frozenAt : List ℕ → ℕ → ℕ → List ℕ
-frozenAt w j end = set w j end
-
-abbrev pub freedAt : List ℕ → ℕ → ℕ → List ℕ
-freedAt w c end = set w (freeFrom + c) end
+  pub live : r .live ≡ l .live
 
 -- By start and then number.
 abbrev pub isAhead : ℕ → ℕ → ℕ → ℕ → Bool
@@ -107,12 +123,32 @@ isAhead a i b j = ltb a b || (eqb a b && ltb i j)
 abbrev pub isShifted : List ℕ → Line → ℕ → ℕ → Bool
 isShifted t l j k = has (looseIn l) k && has (componentAt t j) k
 
+-- Of what was live there stays what is not in the component of j, which was frozen, or ends behind its start; and j.
+pub record Lives (t w : List ℕ) (live j r : ℕ) : Type 0 where
+  pub low : r < 2 ^ most
+  pub members : (k : ℕ)
+      → has r k
+      ≡ ((has live k && (not (has (componentAt t j) k) || ltb (startAt t w j) (endAt w k))) || eqb k j)
+
+-- Of the component of j, which was frozen last: none starts behind it, those that end behind its start are live, and
+-- what else is placed had room where it stands but for j.
+pub record Last (t w : List ℕ) (l : Line) (j : ℕ) : Type 0 where
+  pub live : (k : ℕ) → has (frozenIn l) k ≡ true → has (componentAt t j) k ≡ true → startAt t w j < endAt w k
+      → has (l .live) k ≡ true
+  pub live-low : l .live < 2 ^ most
+  pub frozen : (k : ℕ) → has (l .live) k ≡ true → has (frozenIn l) k ≡ true
+  pub behind : (k : ℕ) → has (frozenIn l) k ≡ true → has (componentAt t j) k ≡ true → startAt t w k ≤ startAt t w j
+  pub room : (k : ℕ) → isShifted t l j k ≡ true → (u : ℕ) → readyAt w k ≤ u → u < readyAt w k + durationAt t k
+      → runsAt t w (frozenIn l) u j ≡ false
+      → hasRoomAt t w (bitAnd (frozenIn l) (componentAt t j)) k u ≡ true
+
 pub record Shifts (t : List ℕ) (l : Line) (j : ℕ) (w w′ : List ℕ) (r : ℕ) : Type 0 where
   pub timed : Timed w′
   pub low : r < 2 ^ most
   pub fit : (k : ℕ) → k < most → isShifted t l j k ≡ true
       → NextFit t w (bitAnd (frozenIn l) (componentAt t j)) k (readyAt w k) (readyAt w′ k)
-  pub same : (c : ℕ) → ((k : ℕ) → k < most → isShifted t l j k ≡ true → c ≡ readyFrom + k → ⊥) → getD w′ c 0 ≡ getD w c 0
+  pub same : (c : ℕ) → ((k : ℕ) → k < most → isShifted t l j k ≡ true → c ≡ readyFrom + k → ⊥)
+      → getD w′ c 0 ≡ getD w c 0
   pub passed : (k : ℕ) → k < most
       → has r k
       ≡ cond (isShifted t l j k) (isAhead (readyAt w′ k) k (startAt t w j) j)
@@ -123,6 +159,10 @@ pub record Deletes (w : List ℕ) (l : Line) (r : ℕ) : Type 0 where
   pub low : r < 2 ^ most
   pub kept : (i : ℕ) → i < most
       → has r i ≡ (has (l .term) i && not (has (runningIn l) i && leb (endAt w i) (l .tick)))
+
+-- What is frozen and in T runs on the tick.
+pub record Runs (t w : List ℕ) (l : Line) : Type 0 where
+  pub runs : (i : ℕ) → has (runningIn l) i ≡ true → (startAt t w i ≤ l .tick) × (l .tick < endAt w i)
 
 -- Step 5: what can start at the tick.
 abbrev pub isFree : List ℕ → List ℕ → Line → ℕ → Bool

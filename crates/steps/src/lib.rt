@@ -6,10 +6,10 @@ use instance::Table;
 use profile::NEVER;
 use profile::Work;
 use profile::end_of;
+use profile::fit_beside;
 use profile::free_of;
-use profile::has_room;
+use profile::has_left;
 use profile::later;
-use profile::next_fit;
 use profile::ready_of;
 use profile::smaller;
 use profile::store_ready;
@@ -23,14 +23,17 @@ ghost use Rattle.sets.specs.Sets.{most, has};
 ghost use Rattle.instance.specs.Instance.{Laid};
 ghost use Rattle.instance.specs.Table.{actsOf};
 ghost use Rattle.profile.specs.Work.{soonAt, Timed};
-ghost use Rattle.steps.specs.Steps.{Sets, frozenIn, runningIn, waitingIn, looseIn, isAhead, isFree};
-ghost use Rattle.steps.specs.Steps.{FirstEnd, FirstStop, Moves, Shifts, Deletes, Attaches};
+ghost use Rattle.steps.specs.Steps.{Sets, Runs, frozenIn, runningIn, waitingIn, looseIn, deletedLine};
+ghost use Rattle.steps.specs.Steps.{never, isAhead, isFree, FirstEnd, FirstStop, Moves, Last, Shifts, Deletes};
+ghost use Rattle.steps.specs.Steps.{Attaches};
+ghost use Rattle.steps.specs.declared.Expired.{Expired};
 ghost use Rattle.steps.specs.declared.Line.{Line};
 ghost use Rattle.steps.specs.declared.Stop.{Stop};
 
 // Where the scan stands: the tick of the scan-line, the activities that are placed, those not yet frozen, and T; the
 // contested components that are still to be resolved there; and those placed and not frozen that a frozen one of their
-// component has passed by start and number. The working array has the diagram.
+// component has passed by start and number; and the frozen that may end behind the last start of their component. The
+// working array has the diagram.
 pub struct Line {
     pub tick: u32,
     pub placed: u32,
@@ -38,13 +41,7 @@ pub struct Line {
     pub term: u32,
     pub due: u32,
     pub passed: u32,
-}
-
-// The frozen activities.
-pub fn frozen(line: Line) -> u32
-    ensures { λ r. ⌜ r ≡ frozenIn line ⌝ }
-{
-    sets::minus(line.placed, line.left)
+    pub live: u32,
 }
 
 // The frozen activities that are still in T.
@@ -72,21 +69,6 @@ pub fn loose(line: Line) -> u32
 pub struct Stop {
     pub tick: u32,
     pub due: u32,
-}
-
-// The first end of a set of frozen activities.
-fn first_end(work: &Work, set: u32) -> u32
-    requires { ⌜ set < 2 ^ most ⌝ }
-    ensures { λ r. ⌜ FirstEnd (now (work .entry)) set r ⌝ }
-{
-    let mut first = NEVER;
-    let mut rest = set;
-    while rest != 0 {
-        let i = lowest(rest);
-        rest = after_lowest(rest);
-        first = smaller(first, end_of(work, i));
-    }
-    first
 }
 
 // The first tick on which one that is placed and not frozen can start.
@@ -124,17 +106,25 @@ fn first_stop(table: &Table, work: &Work, set: u32, first: u32) -> Stop
     Stop { tick, due }
 }
 
-// Step 2: the scan-line goes to the next stopping time.
-pub fn move_line(table: &Table, work: &Work, line: Line) -> Line
+// Step 2: the scan-line goes to the next stopping time, where `first` is the first end of what is frozen and in T.
+pub fn move_line(table: &Table, work: &Work, line: Line, first: u32) -> Line
     requires { ⌜ Sets (now table) (now work) line ⌝ }
-    ensures { λ r. ⌜ Moves (now (table .entry)) (now (work .entry)) line r ⌝ }
+    ensures { λ r. ⌜ Moves (now (table .entry)) (now (work .entry)) line first r ⌝ }
 {
-    let first = first_end(work, running(line));
     let stop = first_stop(table, work, loose(line), first);
     let mut next = line;
     next.tick = stop.tick;
     next.due = stop.due;
     next
+}
+
+// Where nothing waits, a stop on which only frozen activities end changes nothing but T: the scan-line goes to the
+// first end of what is placed and not frozen, and T stays as it was.
+pub fn jump(table: &Table, work: &Work, line: Line) -> Line
+    requires { ⌜ Sets (now table) (now work) line ⌝ }
+    ensures { λ r. ⌜ Moves (now (table .entry)) (now (work .entry)) line never r ⌝ }
+{
+    move_line(table, work, line, NEVER)
 }
 
 // a before b, and where they are equal i before j.
@@ -150,46 +140,62 @@ fn is_ahead(a: u32, i: usize, b: u32, j: usize) -> bool
 // Step 3: what else is placed and not frozen in the component of j, which was frozen, is shifted to its next fit; those
 // that j has passed.
 pub fn shift(table: &Table, work: &mut Work, line: Line, j: usize) -> u32
-    requires { ⌜ Sets (now table) (now work) line × (has (frozenIn line) j ≡ true) ⌝ }
+    requires { ⌜ Sets (now table) (now work) line × (has (frozenIn line) j ≡ true)
+        × Last (now table) (now work) line j ⌝ }
     ensures { λ r. ⌜ Shifts (now (table .entry)) line j (now (work .entry)) (now (work .exit)) r ⌝ }
 {
     let component = table[COMPONENT + j];
-    let start = end_of(work, j) - table[j];
-    let among = sets::common(frozen(line), component);
+    let end = end_of(work, j);
+    let start = end - table[j];
+    let live = sets::common(line.live, component);
     let mut passed = sets::minus(line.passed, component);
     let mut rest = sets::common(loose(line), component);
     while rest != 0 {
         let k = lowest(rest);
         rest = after_lowest(rest);
-        let next = next_fit(table, work, among, k, ready_of(work, k));
-        store_ready(work, k, next);
-        if is_ahead(next, k, start, j) {
+        let from = ready_of(work, k);
+        if from < end && start < from + table[k] {
+            let next = fit_beside(table, work, live, k, from, start);
+            store_ready(work, k, next);
+        }
+        if is_ahead(ready_of(work, k), k, start, j) {
             passed = sets::union(passed, sets::single(k));
         }
     }
     passed
 }
 
+// T without the frozen activities that have ended, and the first end of those that it keeps.
+pub struct Expired {
+    pub term: u32,
+    pub first: u32,
+}
+
 // Step 4: T loses the frozen activities that have ended.
-pub fn delete(work: &Work, line: Line) -> u32
+pub fn expire(work: &Work, line: Line) -> Expired
     requires { ⌜ line .term < 2 ^ most ⌝ }
-    ensures { λ r. ⌜ Deletes (now (work .entry)) line r ⌝ }
+    ensures { λ r. ⌜ Deletes (now (work .entry)) line (r .term)
+        × FirstEnd (now (work .entry)) (runningIn (deletedLine line (r .term))) (r .first) ⌝ }
 {
     let mut term = line.term;
+    let mut first = NEVER;
     let mut rest = running(line);
     while rest != 0 {
         let i = lowest(rest);
         rest = after_lowest(rest);
-        if end_of(work, i) <= line.tick {
+        let end = end_of(work, i);
+        if end <= line.tick {
             term = sets::minus(term, sets::single(i));
+        } else {
+            first = smaller(first, end);
         }
     }
-    term
+    Expired { term, first }
 }
 
 // Where no two of its component can run together, an activity is free to start once the component is.
 fn is_free(table: &Table, work: &Work, line: Line, i: usize) -> bool
-    requires { ⌜ Sets (now table) (now work) line × (line .tick ≤ latestPossible) × (has (line .left) i ≡ true) ⌝ }
+    requires { ⌜ Sets (now table) (now work) line × Runs (now table) (now work) line × (has (line .left) i ≡ true) ⌝ }
     ensures { λ r. ⌜ r ≡ isFree (now (table .entry)) (now (work .entry)) line i ⌝ }
 {
     let component = table[COMPONENT + i];
@@ -197,12 +203,12 @@ fn is_free(table: &Table, work: &Work, line: Line, i: usize) -> bool
         return free_of(work, lowest(component)) <= line.tick;
     }
     let among = sets::common(running(line), component);
-    has_room(table, work, among, i, line.tick)
+    has_left(table, among, i)
 }
 
 // Step 5: what waits, has no predecessor in T and room starts at the scan-line; what is placed then.
 pub fn attach(table: &Table, work: &mut Work, line: Line) -> u32
-    requires { ⌜ Sets (now table) (now work) line × (line .tick ≤ latestPossible) ⌝ }
+    requires { ⌜ Sets (now table) (now work) line × Runs (now table) (now work) line × (line .tick ≤ latestPossible) ⌝ }
     ensures { λ r. ⌜ Attaches (now (table .entry)) line (now (work .entry)) (now (work .exit)) r ⌝ }
 {
     let mut placed = line.placed;

@@ -1,227 +1,224 @@
--- The loop over the variants: before the first, from one to the next, and where it stops.
+-- One turn of the loop over the variants: the order is known, or the variant is searched and its order becomes an
+-- entry.
 use Prim.Native.Nat.{ℕ, _+_, _*_, _^_, _≤_, _<_}
+use native.Mathlib.Decide.{ℕ-discrete}
 use native.Mathlib.Omega.{arith}
-use mathlib.Core.Bool.{Bool, true, false, not}
-use mathlib.Core.List.{List, foldl}
-use mathlib.Core.Path.{_≡_, sym, ap, ap₂, _∙_, fun-ext}
-use lib.Dec.{eqb}
+use mathlib.Core.Bool.{Bool, true, false, not, cond}
+use mathlib.Core.List.{List, [], _∷_, foldl, List·Memᴰ, List-discrete, Perm, Perm·refl, Perm·mem-iff}
+use mathlib.Core.Path.{_≡_, refl, sym, ap, subst, _∙_, fun-ext}
+use lib.Dec.{eqb, leb}
+use lib.ListN.{length, getD}
 use borrow.Author.Tests.{not-true, not-false}
-use lib.ListN.{length, getD, replicate, length-replicate}
 use Rattle.base.specs.Lists.{keep}
-use Rattle.base.proofs.Lists.{keep-none, zeros}
-use Rattle.sets.specs.Sets.{most}
+use Rattle.base.specs.Order.{isBefore}
+use Rattle.base.proofs.Lists.{mem-found, keep-none, keep-same, keep-perm, fold-keep}
 use Rattle.plan.specs.Limits.{mostVariants}
 use Rattle.plan.specs.Plan.{Plan, planOf}
+use Rattle.sets.specs.Sets.{most, has}
+use Rattle.timetable.specs.Mark.{mark}
 use Rattle.term.specs.Term.{Term}
-use Rattle.term.specs.Valid.{HasVariant}
-use Rattle.term.specs.Variants.{variantCount}
-use Rattle.scan.specs.Model.{Problem, problemOf, scanned, scanOf}
-use Rattle.scan.specs.Union.{isNewIn}
-use Rattle.orders.specs.Book.{entryCells, orderAt, buckets, headsCells, entriesOf, bucketOf, itself, Nearest, Book}
-use Rattle.orders.specs.Book.{Chain, Rivals, isNewBy, Compared, Entered}
-use Rattle.tally.specs.Seen.{Kept, kept, settingOf, seen, allSeen}
-use Rattle.tally.specs.declared.Tally.{Tally}
-use Rattle.tally.proofs.Entries.{run-none, run-next, run-done}
+use Rattle.schedule.specs.Project.{Project}
+use Rattle.schedule.specs.Sessions.{startsOf, sessions}
+use Rattle.schedule.proofs.Alike.{Alike, latest-alike, sessions-alike}
 use Rattle.variant.specs.Project.{variantAt}
-use Rattle.variant.specs.Tables.{IsVariant, tablesOf}
-use Rattle.variant.specs.declared.Variant.{Variant}
-use Rattle.variant.proofs.Tables.{same-durations, same-resources, same-preds, same-present, preds-whole, tables-hold}
-use Rattle.judge.specs.Campaign.{HoldsPlan, HoldsVariant}
+use Rattle.variant.specs.Pairs.{sessionsOf, isNew}
+use Rattle.variant.specs.Tables.{OrderOf}
+use Rattle.variant.proofs.Instance.{acts-between}
+use Rattle.instance.specs.Instance.{Chosen, Placed}
+use Rattle.instance.specs.Table.{predsAt, projectIn, linkOf}
+use Rattle.instance.proofs.Kept.{laid-from-kept}
+use Rattle.orders.specs.Book.{entryCells, orderAt, entriesOf, itself, Nearest, Book, Chain, Rivals, Prior, Compared}
+use Rattle.orders.specs.Book.{Entered, isNewBy}
+use Rattle.search.specs.Branch.{Found}
+use Rattle.tally.specs.Seen.{Kept, Setting, settingOf, settingIn, timetableOf, rankKept, rowPlaced, better, counted}
+use Rattle.tally.specs.Seen.{seen}
+use Rattle.judge.specs.Campaign.{HoldsVariant}
 use Rattle.judge.specs.declared.Campaign.{Campaign}
-use Rattle.judge.proofs.Holding.{has-variant}
 use Rattle.sweep.specs.Booked.{Booked}
-use Rattle.sweep.specs.Swept.{tablesAt, sweptAt, sweptBelow, swept, Ready, Turned}
-use Rattle.sweep.proofs.Booking.{chain-of, nearest-beside, booked-beside, known-none, known-next, new-by-book}
-use Rattle.sweep.proofs.Booking.{entered-next}
+use Rattle.sweep.specs.Swept.{LaidFor, projectAt, newAt, Ready, Turned}
+use Rattle.sweep.proofs.Held.{alike, chosen-for}
+use Rattle.sweep.proofs.Booking.{chain-of, nearest-beside, booked-beside, within-own, known-none, known-next}
+use Rattle.sweep.proofs.Booking.{new-by-book, entered-next}
 
--- One variant: all tables that hold it are searched alike.
-module _ {p : Plan} {t : Term} {v : ℕ} (c : HasVariant p t v) {x y : Variant} (held : IsVariant p (variantAt t v) x)
-    (also : IsVariant p (variantAt t v) y) where
-  same-problem : problemOf x ≡ problemOf y
-  unfolding problemOf
-  same-problem = λ k.
-      record {
-        duration = λ i. same-durations c held also i k;
-        resource = λ i. same-resources c held also i k;
-        preds = λ j. same-preds c held also j k;
-      }
+-- What becomes of a schedule rests on its latest end alone.
+seen-alike : (p q : Project) → Alike p q → (s : Setting) → seen p s ≡ seen q s
+unfolding seen counted better
+seen-alike p q a s =
+    fun-ext
+    (λ k.
+    fun-ext
+    (λ row.
+    ap
+    (λ (end : ℕ).
+    cond (leb (k .tally .count) (s .cap))
+    (record {
+      tally =
+          cond (isBefore (end ∷ s .variant ∷ timetableOf row) (rankKept (k .tally)))
+          (record {
+            count = k .tally .count + 1;
+            «best_end» = end;
+            «best_variant» = s .variant;
+            best = record { starts = timetableOf row };
+          })
+          (record {
+            count = k .tally .count + 1;
+            «best_end» = k .tally .«best_end»;
+            «best_variant» = k .tally .«best_variant»;
+            best = k .tally .best;
+          });
+      area = rowPlaced (k .area) (k .tally .count * (s .acts + 1)) (s .variant ∷ row);
+    })
+    k)
+    (latest-alike p q a (startsOf row))))
 
-  same-seen : (cap : ℕ) (isNew : List ℕ → Bool) (k : Kept) → allSeen x v cap isNew k ≡ allSeen y v cap isNew k
-  unfolding allSeen
-  same-seen cap isNew k =
-      ap₂ (λ (q : Problem) (n : ℕ). foldl (seen q (settingOf v n cap)) k (keep isNew (scanned q (x .present))))
-      same-problem
-      (held .acts ∙ sym (also .acts))
-      ∙ ap (λ (n : ℕ). foldl (seen (problemOf y) (settingOf v (y .acts) cap)) k (keep isNew (scanned (problemOf y) n)))
-      (same-present c held also)
-
--- Variant v in the tables x, with the book before it; the link leads to the entries with its activities.
-module _ (c : Campaign) (t : Term) (v : ℕ) (h : HoldsVariant c t v) (x : Variant)
-    (held : IsVariant (planOf (c .tables)) (variantAt t v) x) (heads b : List ℕ) (ready : Ready c t v heads b)
-    (link : ℕ) (near : Nearest itself b (entriesOf heads) (x .present) link) where
+-- Variant v, whose activities and order are in tables, with the book before it; the link leads to the entries with its
+-- activities.
+module _ (c : Campaign) (t : Term) (v : ℕ) (h : HoldsVariant c t v) (present : ℕ) (preds : List ℕ)
+    (own : OrderOf (variantAt t v) present preds) (heads b : List ℕ) (ready : Ready c t v heads b) (link : ℕ)
+    (near : Nearest itself b (entriesOf heads) present link) where
   abbrev p : Plan
   p = planOf (c .tables)
-
-  abbrev X : ℕ → Variant
-  X = tablesAt c t
-
-  chosen : HasVariant p t v
-  chosen = record { valid = h .plan .valid; below = h .below }
-
-  also : IsVariant p (variantAt t v) (X v)
-  also = tables-hold p t v chosen
-
-  own : X v .present ≡ x .present
-  own = same-present chosen also held
-
-  order : (j : ℕ) → j < most → getD (x .preds) j 0 ≡ problemOf (X v) .preds j
-  unfolding problemOf
-  order j l = preds-whole chosen held j l ∙ same-preds chosen held also j
 
   pub linked : Chain link b
   linked = chain-of link (ready .booked .book) (near .upto)
 
+  pub may-place : (table : List ℕ) → LaidFor c table → Chosen table present preds
+  may-place table laid =
+      chosen-for c t (h .plan) table laid v (record { valid = h .plan .valid; below = h .below }) present preds own
+
   -- The order is known: nothing new is found.
-  module _ (b′ : List ℕ) (r : Bool) (compared : Compared (x .preds) link b b′ r) (is : not r ≡ true) where
+  module _ (b′ : List ℕ) (r : Bool) (compared : Compared preds link b b′ r) (is : not r ≡ true) where
     pub turn-known : (cap : ℕ) (k : Kept) → Turned c t cap v k k heads b′
-    unfolding allSeen
     turn-known cap k =
-        let (e, below, alike, same) = compared .known (not-true r is) in
-        let none = known-none X v (x .present) (x .preds) heads b link own order near (ready .booked) e below alike same in
-        let next = known-next X v (x .present) (x .preds) heads b link own order near (ready .booked) e below alike same in
+        let (e, below, same-set, same) = compared .known (not-true r is) in
+        let few : length (p .activities) ≤ most = omega (arith, acts-between p (h .plan .valid .ranges) .1) in
+        let next = known-next t v present preds heads b link own near (ready .booked) e below same-set same in
+        let none : newAt c t v ≡ [] =
+        keep-same (isNew p t v) (λ row. false) (sessionsOf p t v)
+        (known-none t v present preds heads b link own near (ready .booked) e below same-set same p few)
+        ∙ keep-none (λ row. false) (sessionsOf p t v) (λ row. refl) in
         record {
-          seen =
-              sym
-              (ap (foldl (seen (problemOf (X v)) (settingOf v (X v .acts) cap)) k)
-              (keep-none (isNewIn X v) (scanOf (X v)) none));
+          rows = [];
+          all = subst (Perm []) (sym none) (Perm·refl []);
+          kept = refl;
           ready =
               record {
-                booked = booked-beside (compared .beside) X (v + 1) next;
+                booked = booked-beside (compared .beside) t (v + 1) next;
                 room = omega (arith, ready .room, compared .beside .size);
               };
         }
 
   -- The order is new: the variant is searched, and its order becomes an entry.
-  module _ (b′ : List ℕ) (r : Bool) (compared : Compared (x .preds) link b b′ r) (is : not r ≡ false) where
-    booked′ : Booked X v heads b′
-    booked′ = booked-beside (compared .beside) X v (ready .booked)
+  module _ (b′ : List ℕ) (r : Bool) (compared : Compared preds link b b′ r) (is : not r ≡ false) where
+    booked′ : Booked t v heads b′
+    booked′ = booked-beside (compared .beside) t v (ready .booked)
 
-    near′ : Nearest itself b′ (entriesOf heads) (x .present) link
-    near′ = nearest-beside (compared .beside) (entriesOf heads) (x .present) link near
-
-    pub rivals : Rivals (problemOf x .preds) link b′
-    unfolding problemOf
-    rivals =
-        let known : Rivals (λ j. getD (x .preds) j 0) link b′ = compared .new (not-false r is) in
-        record {
-          chain = known .chain;
-          differ =
-              λ e l alike.
-              let d = known .differ e l alike in
-              record {
-                low = d .low;
-                where-not =
-                    λ j small.
-                    d .where-not j small
-                    ∙ ap (λ (o : ℕ). not (eqb (orderAt b′ e j) o)) (preds-whole chosen held j small);
-              };
-        }
+    near′ : Nearest itself b′ (entriesOf heads) present link
+    near′ = nearest-beside (compared .beside) (entriesOf heads) present link near
 
     pub may-enter : Book heads b′
-        × Nearest itself b′ (entriesOf heads) (x .present) link
+        × Nearest itself b′ (entriesOf heads) present link
         × (entriesOf heads < mostVariants)
         × (entryCells * (entriesOf heads + 1) ≤ length b′)
-        × ((j : ℕ) → j < most → getD (x .preds) j 0 < 2 ^ most)
+        × ((j : ℕ) → j < most → getD preds j 0 < 2 ^ most)
     may-enter = (
       booked′ .book,
       near′,
       omega (arith, booked′ .few, h .below, h .plan .valid .few),
       omega (arith, booked′ .few, h .below, ready .room, compared .beside .size),
-      held .order .low,
+      own .low,
     )
 
-    new-same : (ends : List ℕ) → isNewBy (problemOf x) link b′ ends ≡ isNewIn X v ends
-    new-same ends =
-        ap (λ (q : Problem). isNewBy q link b′ ends) (same-problem chosen held also)
-        ∙ new-by-book X v (x .present) (x .preds) heads b′ link own order near′ booked′ ends
+    -- The table with the variant in it.
+    module _ (cap : ℕ) (before table : List ℕ) (laid₀ : LaidFor c before)
+        (placed : Placed before present preds v cap link table) where
+      pub still-laid : LaidFor c table
+      still-laid =
+          laid-from-kept before table (placed .kept) (c .tables .acts) (c .tables .resources) (c .tables .duration)
+          (c .tables .units) (c .tables .capacity) laid₀
 
-    pub turn-new : (cap : ℕ) (before after : Kept) (heads″ b″ : List ℕ)
-        → after ≡ allSeen x v cap (isNewBy (problemOf x) link b′) before
-        → Entered (x .present) (x .preds) heads b′ heads″ b″
-        → Turned c t cap v before after heads″ b″
-    turn-new cap before after heads″ b″ found entered =
-        record {
-          seen =
-              found
-              ∙ same-seen chosen held also cap (isNewBy (problemOf x) link b′) before
-              ∙ ap (λ (f : List ℕ → Bool). allSeen (X v) v cap f before) (fun-ext new-same);
-          ready =
-              record {
-                booked = entered-next X v (x .present) (x .preds) heads b′ link own order near′ booked′ entered;
-                room = omega (arith, ready .room, compared .beside .size, entered .size);
-              };
-        }
+      near-table : Nearest itself b′ (entriesOf heads) present (linkOf table)
+      near-table = subst (Nearest itself b′ (entriesOf heads) present) (sym (placed .link-is)) near′
 
--- The book at the start has no entries.
-pub book-none : (c : Campaign) (t : Term) (b : List ℕ) → entryCells * variantCount t ≤ length b
-    → Ready c t 0 (replicate headsCells 0) b
-book-none c t b room =
-    let none : entriesOf (replicate headsCells 0) ≡ 0 = zeros headsCells buckets in
-    record {
-      booked =
+      pub prior : Prior table b′
+      prior =
+          let rivals : Rivals (λ j. getD preds j 0) (linkOf table) b′ =
+          subst (λ (n : ℕ). Rivals (λ j. getD preds j 0) n b′) (sym (placed .link-is))
+          (compared .new (not-false r is)) in
           record {
-            book =
+            rivals =
                 record {
-                  size = length-replicate {A = ℕ} headsCells 0;
-                  room = omega (arith, none);
-                  head =
-                      λ s.
+                  chain = rivals .chain;
+                  differ =
+                      λ e l like.
+                      let d = rivals .differ e l like in
                       record {
-                        upto = omega (arith, zeros headsCells (bucketOf s));
-                        alike = λ some. absurd (omega (arith, zeros headsCells (bucketOf s)));
-                        none = λ e l below. absurd (omega (arith, none));
+                        low = d .low;
+                        where-not =
+                            λ j small.
+                            d .where-not j small
+                            ∙ ap (λ (o : ℕ). not (eqb (orderAt b′ e j) o)) (sym (placed .befores j small));
                       };
-                  next = λ e s l. absurd (omega (arith, none));
-                  same = λ e l. absurd (omega (arith, none));
-                  low = λ e j l. absurd (omega (arith, none));
                 };
-            few = omega (arith, none);
-            each = λ u l. absurd (omega arith);
-            only = λ e l. absurd (omega (arith, none));
-          };
-      room = room;
-    }
+            within =
+                λ e i j l like small y.
+                let (mi, mj) =
+                within-own t v present preds heads b′ (linkOf table) own near-table booked′ e l like i j small y in (
+                  ap (λ (x : ℕ). has x i) (placed .present-is) ∙ mi,
+                  ap (λ (x : ℕ). has x j) (placed .present-is) ∙ mj,
+                );
+          }
 
--- All of them.
-module _ (c : Campaign) (cap : ℕ) (k₀ : Kept) where
-  -- What is kept is what the first v variants leave.
-  abbrev pub SweptTo : ℕ → Tally → List ℕ → Type 0
-  SweptTo v tally area = (t : Term) → HoldsPlan c t → kept tally area ≡ sweptBelow c t cap k₀ v
+      same-project : Alike (projectIn table) (projectAt c t v)
+      unfolding projectIn
+      same-project =
+          alike c t (h .plan) table still-laid (variantAt t v) (predsAt table)
+          (λ i. ap (λ (x : ℕ). has x i) (placed .present-is) ∙ own .members i)
+          (λ i j l. ap (λ (x : ℕ). has x i) (placed .befores j l) ∙ own .before i j l)
 
-  pub swept-none : SweptTo 0 (k₀ .tally) (k₀ .area)
-  swept-none t h = sym (run-none (length (planOf (c .tables) .activities)) cap (tablesAt c t) k₀)
+      sessions-same : sessions (projectIn table) mark ≡ sessionsOf p t v
+      sessions-same = sessions-alike (projectIn table) (projectAt c t v) same-project mark
 
-  pub swept-next : (v : ℕ) (tally after : Tally) (area next : List ℕ) → v < c .variants → SweptTo v tally area
-      → ((t : Term) → HoldsVariant c t v → kept after next ≡ sweptAt c t cap v (kept tally area))
-      → SweptTo (v + 1) after next
-  unfolding allSeen tablesOf
-  swept-next v tally after area next l before e t h =
-      e t (has-variant h v l)
-      ∙ ap (sweptAt c t cap v) (before t h)
-      ∙ sym (run-next (length (planOf (c .tables) .activities)) cap (tablesAt c t) k₀ v)
+      setting-same : settingIn table ≡ settingOf v (c .tables .acts) cap
+      setting-same = λ i.
+          settingOf (placed .number-is i) ((placed .kept .acts ∙ laid₀ .acts-are) i) (placed .cap-is i)
 
-  -- At the last variant, or sooner where the count is above the cap.
-  pub swept-all : (tally : Tally) (area : List ℕ) → SweptTo (c .variants) tally area
-      → (t : Term) → HoldsPlan c t → kept tally area ≡ swept c t cap k₀
-  swept-all tally area s t h = s t h ∙ ap (sweptBelow c t cap k₀) (h .counted)
+      module _ (k k′ : Kept) (found : Found table b′ k k′) where
+        abbrev isNewHere : List ℕ → Bool
+        isNewHere = isNewBy (projectIn table) (linkOf table) b′
 
-  pub swept-over : (v : ℕ) (tally : Tally) (area : List ℕ) → v ≤ c .variants → cap < tally .count
-      → SweptTo v tally area
-      → (t : Term) → HoldsPlan c t → kept tally area ≡ swept c t cap k₀
-  swept-over v tally area l o s t h =
-      let over : cap < sweptBelow c t cap k₀ v .tally .count =
-      omega (arith, o, ap (λ (k : Kept). k .tally .count) (s t h)) in
-      s t h
-      ∙ sym
-      (run-done (length (planOf (c .tables) .activities)) cap (tablesAt c t) k₀ v (variantCount t)
-      (omega (arith, l, h .counted)) over)
+        listed : (row : List ℕ) → List·Memᴰ row (found .rows) → List·Memᴰ row (sessionsOf p t v)
+        listed row m =
+            subst (List·Memᴰ row) sessions-same
+            (mem-found (List-discrete ℕ-discrete) row (sessions (projectIn table) mark)
+            (Perm·mem-iff (found .all) .0 ∣ m ∣₁))
+
+        new-rows : keep isNewHere (found .rows) ≡ keep (isNew p t v) (found .rows)
+        new-rows =
+            keep-same isNewHere (isNew p t v) (found .rows)
+            (λ row m.
+            new-by-book t v present preds heads b′ (linkOf table) own near-table booked′ c (h .plan) (h .below) table
+            still-laid (placed .present-is) row (listed row m))
+
+        pub turn-new : (heads″ b″ : List ℕ) → Entered present preds heads b′ heads″ b″
+            → Turned c t cap v k k′ heads″ b″
+        turn-new heads″ b″ entered =
+            record {
+              rows = keep isNewHere (found .rows);
+              all =
+                  subst (λ (l : List (List ℕ)). Perm l (newAt c t v)) (sym new-rows)
+                  (subst (λ (l : List (List ℕ)). Perm (keep (isNew p t v) (found .rows)) (keep (isNew p t v) l))
+                  sessions-same
+                  (keep-perm (isNew p t v) (found .all)));
+              kept =
+                  found .kept
+                  ∙ fold-keep isNewHere (seen (projectIn table) (settingIn table)) k (found .rows)
+                  ∙ ap (λ (f : Kept → List ℕ → Kept). foldl f k (keep isNewHere (found .rows)))
+                  (seen-alike (projectIn table) (projectAt c t v) same-project (settingIn table)
+                  ∙ ap (seen (projectAt c t v)) setting-same);
+              ready =
+                  record {
+                    booked = entered-next t v present preds heads b′ link own near′ booked′ entered;
+                    room = omega (arith, ready .room, compared .beside .size, entered .size);
+                  };
+            }

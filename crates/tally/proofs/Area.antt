@@ -5,41 +5,35 @@ use native.Mathlib.Nat.{zero-mul, suc-mul, add-mul}
 use native.Mathlib.Numerals.{add-one}
 use native.Mathlib.Omega.{arith}
 use mathlib.Core.Path.{_≡_, refl, sym, ap, ap₂, _∙_}
-use mathlib.Core.List.{List, [], _∷_, _++_, map, append-assoc, map-append}
+use mathlib.Core.List.{List, [], _∷_, _++_, map, append-assoc, map-append, List·Memᴰ, List·Memᴰ·head, List·Memᴰ·tail}
 use lib.ListN.{length, take, drop, length-append, length-drop}
 use lib.Seq.{take-at, drop-append-add, drop-drop}
 use borrow.Author.Tests.{le-leb}
 use Rattle.base.specs.Lists.{gather}
 use Rattle.base.proofs.Bools.{cond-true}
 use Rattle.base.proofs.Lists.{map-map}
-use Rattle.scan.specs.Model.{starts, problemOf}
-use Rattle.scan.specs.Union.{newOf}
-use Rattle.scan.proofs.Starts.{starts-length}
-use Rattle.tally.specs.Seen.{Kept, rowPlaced, foundRow, counted}
+use Rattle.schedule.specs.Project.{Project}
+use Rattle.tally.specs.Seen.{Kept, rowPlaced, counted}
 use Rattle.tally.specs.Entries.{Entry, entryOf, entries, entriesBelow, step, run}
 use Rattle.tally.proofs.Entries.{step-counts}
 use Rattle.tally.proofs.Count.{step-count}
-use Rattle.variant.specs.declared.Variant.{Variant}
 
 -- The rows
 
-abbrev pub row : ℕ → Entry → List ℕ
-row acts e = e .variant ∷ starts (e .problem) acts (e .ends)
+abbrev pub line : Entry → List ℕ
+line e = e .variant ∷ e .row
 
-abbrev pub rows : ℕ → List Entry → List (List ℕ)
-rows acts es = map (row acts) es
-
-pub row-length : (acts : ℕ) (e : Entry) → length (row acts e) ≡ suc acts
-row-length acts e = ap suc (starts-length (e .problem) (e .ends) acts)
+abbrev pub lines : List Entry → List (List ℕ)
+lines es = map line es
 
 -- Variant by variant they are those of the schedules that count.
-pub rows-below : (x : ℕ → Variant) (acts n : ℕ)
-    → rows acts (entriesBelow x n) ≡ gather n (λ v. map (λ ends. v ∷ starts (problemOf (x v)) acts ends) (newOf x v))
+pub lines-below : (p : ℕ → Project) (x : ℕ → List (List ℕ)) (n : ℕ)
+    → lines (entriesBelow p x n) ≡ gather n (λ v. map (v ∷_) (x v))
 unfolding gather entries
-rows-below x acts zero = refl
-rows-below x acts (suc n) =
-    map-append (row acts) (entriesBelow x n) (entries x n)
-    ∙ ap₂ _++_ (rows-below x acts n) (map-map (row acts) (entryOf (problemOf (x n)) n) (newOf x n))
+lines-below p x zero = refl
+lines-below p x (suc n) =
+    map-append line (entriesBelow p x n) (entries p x n)
+    ∙ ap₂ _++_ (lines-below p x n) (map-map line (entryOf (p n) n) (x n))
 
 -- One row is placed
 
@@ -61,41 +55,43 @@ regroup front r cells rest n = rw drop-drop (simp append-assoc)
 
 module _ (acts cap : ℕ) where
   step-area : (k : Kept) (e : Entry) → k .tally .count ≤ cap
-      → step acts cap k e .area ≡ rowPlaced (k .area) (k .tally .count * suc acts) (row acts e)
-  unfolding counted foundRow
+      → step acts cap k e .area ≡ rowPlaced (k .area) (k .tally .count * suc acts) (line e)
+  unfolding counted
   step-area k e c =
       ap (λ (x : Kept). x .area) (step-counts acts cap k e c)
-      ∙ ap (λ (w : ℕ). rowPlaced (k .area) (k .tally .count * w) (row acts e)) (add-one acts)
+      ∙ ap (λ (w : ℕ). rowPlaced (k .area) (k .tally .count * w) (line e)) (add-one acts)
 
   -- The cells of the rows, by any function that joins rows one after the other.
   module _ (cells : List (List ℕ) → List ℕ) (none : cells [] ≡ [])
       (more : (r : List ℕ) (rs : List (List ℕ)) → cells (r ∷ rs) ≡ r ++ cells rs) where
     -- The front holds the rows counted so far.
-    pub area-from : (k : Kept) (es : List Entry) (front rest : List ℕ) → k .area ≡ front ++ rest
+    pub area-from : (k : Kept) (es : List Entry) (front rest : List ℕ)
+        → ((e : Entry) → List·Memᴰ e es → length (e .row) ≡ acts) → k .area ≡ front ++ rest
         → length front ≡ k .tally .count * suc acts
         → k .tally .count + length es ≤ suc cap → length es * suc acts ≤ length rest
-        → run acts cap k es .area ≡ front ++ (cells (rows acts es) ++ drop (length es * suc acts) rest)
-    area-from k [] front rest a f c l =
+        → run acts cap k es .area ≡ front ++ (cells (lines es) ++ drop (length es * suc acts) rest)
+    area-from k [] front rest long a f c l =
         a ∙ sym (ap₂ (λ (x : List ℕ) (n : ℕ). front ++ (x ++ drop n rest)) none (zero-mul (suc acts)))
-    area-from k (e ∷ es) front rest a f c l =
+    area-from k (e ∷ es) front rest long a f c l =
         let next : Kept = step acts cap k e in
-        let r : List ℕ = row acts e in
+        let r : List ℕ = line e in
         let one : next .tally .count ≡ k .tally .count + 1 = step-count acts cap k e (omega arith) in
-        let wide : length r ≡ suc acts = row-length acts e in
+        let wide : length r ≡ suc acts = ap suc (long e (List·Memᴰ·head refl)) in
         let all : length (e ∷ es) * suc acts ≡ length es * suc acts + suc acts = suc-mul (length es) (suc acts) in
         let split : length r + length es * suc acts ≡ length (e ∷ es) * suc acts = omega arith in
-        area-from next es (front ++ r) (drop (length r) rest)
+        area-from next es (front ++ r) (drop (length r) rest) (λ d m. long d (List·Memᴰ·tail m))
         (step-area k e (omega arith)
         ∙ ap (λ (x : List ℕ). rowPlaced x (k .tally .count * suc acts) r) a
         ∙ placed-at front rest r (k .tally .count * suc acts) f (omega arith))
         (length-append front r ∙ omega (arith, ap (_* suc acts) one, add-mul (k .tally .count) 1 (suc acts)))
         (omega arith)
         (omega (arith, length-drop (length r) rest))
-        ∙ regroup front r (cells (rows acts es)) rest (length es * suc acts)
-        ∙ ap₂ (λ (x : List ℕ) (n : ℕ). front ++ (x ++ drop n rest)) (sym (more r (rows acts es))) split
+        ∙ regroup front r (cells (lines es)) rest (length es * suc acts)
+        ∙ ap₂ (λ (x : List ℕ) (n : ℕ). front ++ (x ++ drop n rest)) (sym (more r (lines es))) split
 
-    pub area-is : (k : Kept) (es : List Entry) → k .tally .count ≡ 0 → length es ≤ cap
+    pub area-is : (k : Kept) (es : List Entry)
+        → ((e : Entry) → List·Memᴰ e es → length (e .row) ≡ acts) → k .tally .count ≡ 0 → length es ≤ cap
         → length es * suc acts ≤ length (k .area)
-        → run acts cap k es .area ≡ cells (rows acts es) ++ drop (length es * suc acts) (k .area)
-    area-is k es fresh c l =
-        area-from k es [] (k .area) refl (sym (ap (_* suc acts) fresh ∙ zero-mul (suc acts))) (omega arith) l
+        → run acts cap k es .area ≡ cells (lines es) ++ drop (length es * suc acts) (k .area)
+    area-is k es long fresh c l =
+        area-from k es [] (k .area) long refl (sym (ap (_* suc acts) fresh ∙ zero-mul (suc acts))) (omega arith) l

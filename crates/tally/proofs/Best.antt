@@ -11,16 +11,16 @@ use borrow.Author.Tests.{lt-ltb}
 use Rattle.base.specs.Order.{isBefore, Before, NotAfter}
 use Rattle.base.proofs.Bools.{by-bool, true-not-false, cond-true, cond-false}
 use Rattle.base.proofs.Order.{other-first, not-self, before-not-after, not-after-trans}
-use Rattle.scan.specs.Model.{lastEnd, starts}
-use Rattle.timetable.specs.Mark.{places}
+use Rattle.schedule.specs.Schedule.{latestEnd}
+use Rattle.schedule.specs.Sessions.{startsOf}
 use Rattle.tally.specs.declared.Tally.{Tally}
-use Rattle.tally.specs.Seen.{Kept, settingOf, rankOf, rankKept, better, counted}
+use Rattle.tally.specs.Seen.{Kept, settingOf, timetableOf, rankOf, rankKept, better, counted}
 use Rattle.tally.specs.Entries.{Entry, step, run}
 use Rattle.tally.proofs.Entries.{step-counts}
 use Rattle.tally.proofs.Count.{step-count}
 
 abbrev pub rankEntry : Entry → List ℕ
-rankEntry e = rankOf (e .problem) (e .variant) (e .ends)
+rankEntry e = rankOf (e .project) (e .variant) (e .row)
 
 -- The tally keeps one of the entries, and none of them comes before it.
 pub record FirstFound (t : Tally) (es : List Entry) : Type 0 where
@@ -81,7 +81,7 @@ module _ (acts cap : ℕ) where
   unfolding counted better
   step-least k e c =
       let next : Kept = step acts cap k e in
-      let is : next .tally ≡ better (e .problem) (settingOf (e .variant) acts cap) (k .tally) (e .ends) =
+      let is : next .tally ≡ better (e .project) (settingOf (e .variant) acts cap) (k .tally) (e .row) =
       ap (λ (x : Kept). x .tally) (step-counts acts cap k e c) in
       by-bool
       (isBefore (rankEntry e) (rankKept (k .tally)))
@@ -104,15 +104,15 @@ module _ (acts cap : ℕ) where
 
   -- From a tally whose end is later than every entry's.
   pub best : (k : Kept) (es : List Entry) → 0 < length es → k .tally .count + length es ≤ suc cap
-      → ((e : Entry) → List·Memᴰ e es → lastEnd (e .ends) < k .tally .«best_end»)
+      → ((e : Entry) → List·Memᴰ e es → latestEnd (e .project) (startsOf (e .row)) < k .tally .«best_end»)
       → FirstFound (run acts cap k es .tally) es
   best k [] some c above = absurd (not-suc-le-zero some)
   best k (e ∷ es) some c above =
       let t : Tally = k .tally in
-      let end : ℕ = lastEnd (e .ends) in
+      let end : ℕ = latestEnd (e .project) (startsOf (e .row)) in
       let later : end < t .«best_end» = above e (List·Memᴰ·head refl) in
       let before : Before (rankEntry e) (rankKept t) =
-      other-first end (t .«best_end») (e .variant ∷ starts (e .problem) places (e .ends))
+      other-first end (t .«best_end») (e .variant ∷ timetableOf (e .row))
       (t .«best_variant» ∷ t .best .starts) (λ q. omega arith)
       ∙ lt-ltb end (t .«best_end») later in
       let least : Least (rankKept (run acts cap k (e ∷ es) .tally)) (rankKept t) (e ∷ es) = run-least k (e ∷ es) c in

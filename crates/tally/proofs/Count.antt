@@ -10,15 +10,15 @@ use lib.ListN.{length}
 use borrow.Author.Tests.{lt-leb}
 use Rattle.base.specs.Order.{isBefore}
 use Rattle.base.proofs.Bools.{by-bool}
-use Rattle.scan.specs.Model.{Problem}
+use Rattle.schedule.specs.Project.{Project}
 use Rattle.tally.specs.declared.Tally.{Tally}
 use Rattle.tally.specs.Seen.{Kept, Setting, rankOf, rankKept, better, counted}
 use Rattle.tally.specs.Entries.{Entry, step, run}
 use Rattle.tally.proofs.Entries.{step-counts, stays}
 
-better-count : (p : Problem) (q : Setting) (t : Tally) (ends : List ℕ) → better p q t ends .count ≡ t .count + 1
+better-count : (p : Project) (q : Setting) (t : Tally) (row : List ℕ) → better p q t row .count ≡ t .count + 1
 unfolding better
-better-count p q t ends = by-bool (isBefore (rankOf p (q .variant) ends) (rankKept t)) (λ y. rw y) (λ z. rw z)
+better-count p q t row = by-bool (isBefore (rankOf p (q .variant) row) (rankKept t)) (λ y. rw y) (λ z. rw z)
 
 module _ (acts cap : ℕ) where
   pub step-count : (k : Kept) (e : Entry) → k .tally .count ≤ cap
@@ -26,7 +26,7 @@ module _ (acts cap : ℕ) where
   unfolding counted
   step-count k e l =
       ap (λ (x : Kept). x .tally .count) (step-counts acts cap k e l)
-      ∙ better-count (e .problem) _ (k .tally) (e .ends)
+      ∙ better-count (e .project) _ (k .tally) (e .row)
 
   pub count-from : (k : Kept) (es : List Entry) → k .tally .count ≤ suc cap
       → run acts cap k es .tally .count ≡ min (k .tally .count + length es) (suc cap)

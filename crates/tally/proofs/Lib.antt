@@ -4,3 +4,4 @@ pub mod Entries
 pub mod Count
 pub mod Best
 pub mod Area
+pub mod Passed

@@ -1,33 +1,40 @@
 -- The starts of a schedule as the program writes them: one store at a time, as a row in its stretch of the area, and
 -- in the cells of the tally. Its rank beside the one kept, as the program compares them.
 use Prim.Native.Nat.{ℕ, suc, _+_, _-_, _*_, _≤_, _<_}
-use native.Mathlib.Nat.{not-suc-le-zero, le-trans, le-of-lt, mul-le-mul-left, mul-le-mul-right}
-use native.Mathlib.Decide.{ℕ-discrete}
+use native.Mathlib.Nat.{not-suc-le-zero, le-antisymm, le-trans, le-of-lt, mul-le-mul-left, mul-le-mul-right}
+use native.Mathlib.Decide.{ℕ-discrete, decLt}
 use native.Mathlib.Numerals.{add-one, one-add}
 use native.Mathlib.Omega.{arith}
-use mathlib.Core.Bool.{Bool, true, false}
+use mathlib.Core.Bool.{Bool, true, false, cond}
 use mathlib.Core.List.{List, [], _∷_, _++_, append-assoc, append-nil}
 use mathlib.Core.Logic.{by-cases}
 use mathlib.Core.Path.{_≡_, refl, sym, ap, ap₂, _∙_}
 use lib.Dec.{ltb}
-use lib.ListN.{length, getD, set, take, drop, length-append, length-drop, length-set, drop-of-length-le}
+use lib.ListN.{length, getD, set, take, drop, replicate, length-append, length-drop, length-set, drop-of-length-le}
+use lib.ListN.{length-replicate, getD-replicate, List·getD-append}
 use lib.Seq.{paste, paste-suc, take-suc, take-suc-set, take-all, drop-drop, getD-set-other}
 use lib.Seq.{drop-cons, getD-drop, getD-append-add, length-take-le}
 use borrow.Author.Tests.{le-leb, lt-leb, eq-eqb, ne-eqb}
 use Rattle.base.specs.Order.{isBefore}
-use Rattle.base.proofs.Bools.{cond-true, cond-false}
+use Rattle.base.proofs.Bools.{by-bool, cond-true, cond-false}
 use Rattle.base.proofs.Order.{same-first, other-first}
-use Rattle.scan.specs.Model.{Problem, startOf, starts, lastEnd}
-use Rattle.scan.proofs.Starts.{starts-length, starts-at}
-use Rattle.plan.specs.Limits.{latestPossible, wordValues}
-use Rattle.timetable.specs.Mark.{places}
-use Rattle.network.specs.Network.{variantOf, actsOf, durationAt}
-use Rattle.candidates.specs.Tables.{problemIn}
-use Rattle.tally.specs.Seen.{Setting, rowPlaced, foundRow, IsTally, tallyOf, keptOf, better, seen, counted}
-use Rattle.tally.specs.Seen.{countCell, bestEndCell, bestVariantCell, startsFrom, tallyCells, rowIn, rankIn}
+use Rattle.base.proofs.Below.{max-term, max-least}
+use Rattle.plan.specs.Limits.{wordValues}
+use Rattle.sets.specs.Sets.{most, has}
+use Rattle.timetable.specs.Mark.{mark, places}
+use Rattle.schedule.specs.Project.{Project}
+use Rattle.schedule.specs.Schedule.{latestEnd}
+use Rattle.schedule.specs.Sessions.{startsOf}
+use Rattle.schedule.proofs.Load.{end-le, ends-least}
+use Rattle.instance.specs.Table.{variantOf, actsOf, presentOf, durationAt, projectIn}
+use Rattle.instance.specs.Instance.{Instance}
+use Rattle.profile.specs.Work.{endAt, startAt, latestOf}
+use Rattle.soonest.specs.Row.{Ended, rowIn}
+use Rattle.soonest.proofs.Row.{row-length, row-at, end-is, present-below}
+use Rattle.tally.specs.Seen.{Setting, rowPlaced, timetableOf, IsTally, tallyOf, keptOf, better, seen, counted}
+use Rattle.tally.specs.Seen.{countCell, bestEndCell, bestVariantCell, startsFrom, tallyCells, lineIn, rankIn}
 use Rattle.tally.specs.Seen.{rankOf, rankKept}
-use Rattle.candidates.proofs.Columns.{duration-at}
-use Rattle.sets.specs.Sets.{width}
+use Rattle.tally.specs.Leaf.{startOf}
 
 -- ---- starts
 
@@ -39,11 +46,100 @@ start-below end d h =
     (λ e. rw (eq-eqb end 0 e) (omega arith))
     (λ ne. rw (ne-eqb end 0 ne) (omega arith))
 
--- What the code stores is the start that is due.
-pub stored : (t ends : List ℕ) (n i x : ℕ) → i < n → i < width → x ≡ startOf (getD ends i 0) (durationAt t i)
-    → x ≡ getD (starts (problemIn t) n ends) i 0
-stored t ends n i x h low new =
-    new ∙ ap (startOf (getD ends i 0)) (sym (duration-at t i low)) ∙ sym (starts-at (problemIn t) ends n i h)
+-- The schedule in the working array.
+module _ (t w : List ℕ) (whole : Instance t) (ended : Ended t w) where
+  abbrev few : actsOf t ≤ places
+  few = whole .laid .acts
+
+  -- What has ended has run its duration.
+  pub ended-ran : (i : ℕ) → i < places → (endAt w i ≡ 0 → ⊥) → durationAt t i ≤ endAt w i
+  ended-ran i l ne =
+      by-bool (has (presentOf t) i) (λ y. ended .ran i y) (λ z. absurd (ne (ended .idle i l z)))
+
+  start-present : (i : ℕ) → has (presentOf t) i ≡ true → startOf (endAt w i) (durationAt t i) ≡ startAt t w i
+  unfolding startOf
+  start-present i y =
+      cond-false mark (startAt t w i)
+      (ne-eqb (endAt w i) 0 (λ e. omega (arith, ended .ran i y, whole .laid .long i (whole .present i y))))
+
+  start-absent : (i : ℕ) → i < places → has (presentOf t) i ≡ false → startOf (endAt w i) (durationAt t i) ≡ mark
+  unfolding startOf
+  start-absent i l z = cond-true mark (startAt t w i) (eq-eqb (endAt w i) 0 (ended .idle i l z))
+
+  -- What the code stores is the start that is due.
+  pub row-start : (i x : ℕ) → i < actsOf t → x ≡ startOf (endAt w i) (durationAt t i) → x ≡ getD (rowIn t w) i 0
+  row-start i x l e =
+      by-bool
+      (has (presentOf t) i)
+      (λ y. e ∙ start-present i y ∙ sym (row-at t w i l ∙ cond-true (startAt t w i) mark y))
+      (λ z.
+      e ∙ start-absent i (omega (arith, few)) z ∙ sym (row-at t w i l ∙ cond-false (startAt t w i) mark z))
+
+  pub timetable-length : length (timetableOf (rowIn t w)) ≡ places
+  unfolding timetableOf
+  timetable-length =
+      length-append (rowIn t w) (replicate (places - length (rowIn t w)) mark)
+      ∙ omega (arith, length-replicate (places - length (rowIn t w)) mark, row-length t w, few)
+
+  pub timetable-start : (i x : ℕ) → i < places → x ≡ startOf (endAt w i) (durationAt t i)
+      → x ≡ getD (timetableOf (rowIn t w)) i 0
+  unfolding timetableOf
+  timetable-start i x l e =
+      by-cases
+      (decLt i (actsOf t))
+      (λ b.
+      row-start i x b e
+      ∙ sym (List·getD-append (rowIn t w) (replicate (places - length (rowIn t w)) mark) 0 i
+      (omega (arith, row-length t w))))
+      (λ n.
+      let row : List ℕ = rowIn t w in
+      let rest : List ℕ = replicate (places - length row) mark in
+      let past : ℕ = i - length row in
+      let at : length row + past ≡ i = omega (arith, row-length t w) in
+      let absent : has (presentOf t) i ≡ false =
+      by-bool (has (presentOf t) i) (λ y. absurd (n (whole .present i y))) (λ z. z) in
+      e
+      ∙ start-absent i l absent
+      ∙ sym (getD-replicate (places - length row) past mark 0 (omega (arith, row-length t w)))
+      ∙ sym (getD-append-add row rest past 0)
+      ∙ ap (λ (k : ℕ). getD (row ++ rest) k 0) at)
+
+  pub timetable-below : (i : ℕ) → i < places → getD (timetableOf (rowIn t w)) i 0 < wordValues
+  timetable-below i l =
+      omega (
+        arith,
+        timetable-start i (startOf (endAt w i) (durationAt t i)) l refl,
+        start-below (endAt w i) (durationAt t i) (omega (arith, ended .timed .times i)),
+      )
+
+  pub line-length : length (lineIn t w) ≡ actsOf t + 1
+  line-length = ap suc (row-length t w) ∙ sym (add-one (actsOf t))
+
+  -- The latest end.
+  pub last-is : latestOf w (presentOf t) ≡ latestEnd (projectIn t) (startsOf (rowIn t w))
+  unfolding projectIn
+  last-is =
+      le-antisymm
+      (max-least most (λ i. cond (has (presentOf t) i) (endAt w i) 0) (latestEnd (projectIn t) (startsOf (rowIn t w)))
+      (λ i l.
+      by-bool
+      (has (presentOf t) i)
+      (λ y.
+      omega (
+        arith,
+        cond-true (endAt w i) 0 y,
+        end-is t w whole ended i y,
+        end-le (projectIn t) (startsOf (rowIn t w)) i (record { below = whole .present i y; there = y }),
+      ))
+      (λ z. omega (arith, cond-false (endAt w i) 0 z))))
+      (ends-least (projectIn t) (startsOf (rowIn t w)) (latestOf w (presentOf t))
+      (λ i h.
+      omega (
+        arith,
+        end-is t w whole ended i (h .there),
+        cond-true (endAt w i) 0 (h .there),
+        max-term most (λ i. cond (has (presentOf t) i) (endAt w i) 0) i (present-below t i whole (h .there)),
+      )))
 
 -- One more start is copied to its place.
 pub one-more : (l₀ s l : List ℕ) (at i x : ℕ) → at + i < length l₀ → i < length s → x ≡ getD s i 0
@@ -61,14 +157,12 @@ row-written : (row s : List ℕ) (x n : ℕ) → 0 < length row
 row-written [] s x n h = absurd (not-suc-le-zero h)
 row-written (y ∷ ys) s x n h = rw (one-add, add-one)
 
-pub row-done : (t ends row : List ℕ) (n : ℕ) → n ≡ actsOf t → 0 < length row
-    → paste (set row 0 (variantOf t)) 1 (starts (problemIn t) n ends) n ≡ rowIn t ends ++ drop (actsOf t + 1) row
-unfolding foundRow
-row-done t ends row n e h =
-    row-written row (starts (problemIn t) n ends) (variantOf t) n h
-    ∙ ap (λ (l : List ℕ). (variantOf t ∷ l) ++ drop (n + 1) row)
-    (take-all n (starts (problemIn t) n ends) (omega (arith, starts-length (problemIn t) ends n)))
-    ∙ ap (λ (k : ℕ). (variantOf t ∷ starts (problemIn t) k ends) ++ drop (k + 1) row) e
+pub row-done : (t w row : List ℕ) → 0 < length row
+    → paste (set row 0 (variantOf t)) 1 (rowIn t w) (actsOf t) ≡ lineIn t w ++ drop (actsOf t + 1) row
+row-done t w row h =
+    row-written row (rowIn t w) (variantOf t) (actsOf t) h
+    ∙ ap (λ (l : List ℕ). (variantOf t ∷ l) ++ drop (actsOf t + 1) row)
+    (take-all (actsOf t) (rowIn t w) (omega (arith, row-length t w)))
 
 placed-fits : (area row rest : List ℕ) (at : ℕ) → at + length row ≤ length area
     → rest ≡ row ++ drop (length row) (drop at area)
@@ -96,13 +190,9 @@ row-placed area row part at n h e back =
     placed-fits area row (part ++ drop (length area - at) (drop at area)) at (omega arith)
     (ap (part ++_) none ∙ append-nil part ∙ back ∙ ap₂ (λ (k : ℕ) (xs : List ℕ). row ++ drop k xs) (sym e) whole)
 
-pub row-length : (p : Problem) (q : Setting) (ends : List ℕ) → length (foundRow p q ends) ≡ q .acts + 1
-unfolding foundRow
-row-length p q ends = ap suc (starts-length p ends (q .acts)) ∙ sym (add-one (q .acts))
-
 -- Where the next row starts.
-pub row-at : (count acts : ℕ) → count < wordValues → acts ≤ places → count * (acts + 1) ≤ wordValues * (places + 1)
-row-at count acts h l =
+pub next-at : (count acts : ℕ) → count < wordValues → acts ≤ places → count * (acts + 1) ≤ wordValues * (places + 1)
+next-at count acts h l =
     let few : acts + 1 ≤ places + 1 = omega arith in
     le-trans (mul-le-mul-right (acts + 1) (le-of-lt h)) (mul-le-mul-left (wordValues) few)
 
@@ -147,11 +237,6 @@ tally-stored cells s cells′ e f low back =
           omega (arith, at, low i l);
     }
 
-pub starts-below : (p : Problem) (ends : List ℕ) → ((i : ℕ) → getD ends i 0 ≤ latestPossible) → (i : ℕ) → i < places
-    → getD (starts p places ends) i 0 < wordValues
-starts-below p ends times i l =
-    omega (arith, starts-at p ends places i l, start-below (getD ends i 0) (p .duration i) (omega (arith, times i)))
-
 -- One more of the list s is copied.
 pub one-copied : (l s : List ℕ) (i x : ℕ) → i < length l → i < length s → x ≡ getD s i 0 → take i l ≡ take i s
     → take (i + 1) (set l i x) ≡ take (i + 1) s
@@ -165,17 +250,17 @@ one-copied l s i x h k new so-far =
 -- ---- the rank
 
 -- The schedule's starts, and those kept.
-module _ (t ends cells : List ℕ) where
+module _ (t w cells : List ℕ) where
   abbrev ours : List ℕ
-  ours = starts (problemIn t) places ends
+  ours = timetableOf (rowIn t w)
 
   abbrev theirs : List ℕ
   theirs = drop startsFrom cells
 
   -- From the place i on.
-  module _ (i : ℕ) (tally : IsTally cells) where
+  module _ (whole : Instance t) (ended : Ended t w) (i : ℕ) (tally : IsTally cells) where
     ours-size : length ours ≡ places
-    ours-size = starts-length (problemIn t) ends places
+    ours-size = timetable-length t w whole ended
 
     theirs-size : length theirs ≡ places
     theirs-size = length-drop startsFrom cells ∙ omega (arith, tally .size)
@@ -185,7 +270,7 @@ module _ (t ends cells : List ℕ) where
         ap₂ isBefore (drop-of-length-le ours {i = i} (omega (arith, ours-size)))
         (drop-of-length-le theirs {i = i} (omega (arith, theirs-size)))
 
-    module _ (x : ℕ) (low : i < places) (is : x ≡ startOf (getD ends i 0) (durationAt t i)) where
+    module _ (x : ℕ) (low : i < places) (is : x ≡ startOf (endAt w i) (durationAt t i)) where
       abbrev there : ℕ
       there = getD cells (startsFrom + i) 0
 
@@ -195,7 +280,7 @@ module _ (t ends cells : List ℕ) where
           ap₂ isBefore (drop-cons ours i 0 (omega (arith, ours-size)))
           (drop-cons theirs i 0 (omega (arith, theirs-size)))
           ∙ ap₂ (λ (m n : ℕ). isBefore (m ∷ drop (suc i) ours) (n ∷ drop (suc i) theirs))
-          (sym (stored t ends places i x low (omega arith) is)) (getD-drop startsFrom cells i 0)
+          (sym (timetable-start t w whole ended i x low is)) (getD-drop startsFrom cells i 0)
 
       pub start-same : x ≡ there
           → isBefore (drop i ours) (drop i theirs) ≡ isBefore (drop (i + 1) ours) (drop (i + 1) theirs)
@@ -214,23 +299,26 @@ module _ (t ends cells : List ℕ) where
   abbrev their-variant : ℕ
   their-variant = getD cells bestVariantCell 0
 
-  pub by-end : (end : ℕ) → end ≡ lastEnd ends → (end ≡ their-end → ⊥)
-      → ltb end their-end ≡ isBefore (rankIn t ends) (rankKept (tallyOf cells))
+  abbrev our-end : ℕ
+  our-end = latestEnd (projectIn t) (startsOf (rowIn t w))
+
+  pub by-end : (end : ℕ) → end ≡ our-end → (end ≡ their-end → ⊥)
+      → ltb end their-end ≡ isBefore (rankIn t w) (rankKept (tallyOf cells))
   by-end end is ne =
       sym (other-first end their-end (variantOf t ∷ ours) (their-variant ∷ theirs) ne)
       ∙ ap (λ (n : ℕ). isBefore (n ∷ variantOf t ∷ ours) (rankKept (tallyOf cells))) is
 
-  module _ (same : lastEnd ends ≡ their-end) where
-    same-end : isBefore (rankIn t ends) (rankKept (tallyOf cells))
+  module _ (same : our-end ≡ their-end) where
+    same-end : isBefore (rankIn t w) (rankKept (tallyOf cells))
         ≡ isBefore (variantOf t ∷ ours) (their-variant ∷ theirs)
-    same-end = same-first (lastEnd ends) their-end (variantOf t ∷ ours) (their-variant ∷ theirs) same
+    same-end = same-first our-end their-end (variantOf t ∷ ours) (their-variant ∷ theirs) same
 
     pub by-variant : (variantOf t ≡ their-variant → ⊥)
-        → ltb (variantOf t) their-variant ≡ isBefore (rankIn t ends) (rankKept (tallyOf cells))
+        → ltb (variantOf t) their-variant ≡ isBefore (rankIn t w) (rankKept (tallyOf cells))
     by-variant ne = sym (same-end ∙ other-first (variantOf t) their-variant ours theirs ne)
 
     pub by-starts : variantOf t ≡ their-variant
-        → isBefore ours theirs ≡ isBefore (rankIn t ends) (rankKept (tallyOf cells))
+        → isBefore ours theirs ≡ isBefore (rankIn t w) (rankKept (tallyOf cells))
     by-starts e = sym (same-end ∙ same-first (variantOf t) their-variant ours theirs e)
 
 -- One more is counted, which does not change the rank kept.
@@ -240,48 +328,49 @@ more cells = set cells countCell (getD cells countCell 0 + 1)
 pub more-tally : (cells : List ℕ) → IsTally cells → IsTally (more cells)
 more-tally cells t = tally-set cells countCell (getD cells countCell 0 + 1) (omega arith) t
 
-module _ (p : Problem) (q : Setting) (ends : List ℕ) where
+module _ (p : Project) (q : Setting) (row : List ℕ) where
   abbrev ahead : List ℕ → Bool
-  ahead cells = isBefore (rankOf p (q .variant) ends) (rankKept (tallyOf cells))
+  ahead cells = isBefore (rankOf p (q .variant) row) (rankKept (tallyOf cells))
 
   -- The cells with the end, the variant and the starts stored.
   abbrev ranked : List ℕ → ℕ → List ℕ
   ranked cells end =
-      take startsFrom (set (set (more cells) bestEndCell end) bestVariantCell (q .variant)) ++ starts p places ends
+      take startsFrom (set (set (more cells) bestEndCell end) bestVariantCell (q .variant)) ++ timetableOf row
 
-  pub rank-before : (cells cells′ : List ℕ) (end : ℕ) → end ≡ lastEnd ends → IsTally cells
+  pub rank-before : (cells cells′ : List ℕ) (end : ℕ) → end ≡ latestEnd p (startsOf row) → IsTally cells
       → ahead (more cells) ≡ true → cells′ ≡ ranked cells end
-      → tallyOf cells′ ≡ better p q (tallyOf cells) ends
+      → tallyOf cells′ ≡ better p q (tallyOf cells) row
   unfolding better
   rank-before cells cells′ end e t h back =
       ap tallyOf (back ∙ ap (ranked cells) e)
       ∙ three
-      (λ cells. ahead (more cells) ≡ true → tallyOf (ranked cells (lastEnd ends)) ≡ better p q (tallyOf cells) ends)
+      (λ cells.
+      ahead (more cells) ≡ true → tallyOf (ranked cells (latestEnd p (startsOf row))) ≡ better p q (tallyOf cells) row)
       (λ x y z r h. sym (cond-true _ _ h))
       cells
       (omega (arith, t .size))
       h
 
   pub rank-after : (cells : List ℕ) → IsTally cells → ahead (more cells) ≡ false
-      → tallyOf (more cells) ≡ better p q (tallyOf cells) ends
+      → tallyOf (more cells) ≡ better p q (tallyOf cells) row
   unfolding better
   rank-after cells t h =
       three
-      (λ cells. ahead (more cells) ≡ false → tallyOf (more cells) ≡ better p q (tallyOf cells) ends)
+      (λ cells. ahead (more cells) ≡ false → tallyOf (more cells) ≡ better p q (tallyOf cells) row)
       (λ x y z r h. sym (cond-false _ _ h))
       cells
       (omega (arith, t .size))
       h
 
   pub seen-counted : (cells cells′ area area′ : List ℕ) → getD cells countCell 0 ≤ q .cap
-      → tallyOf cells′ ≡ better p q (tallyOf cells) ends
-      → area′ ≡ rowPlaced area (getD cells countCell 0 * (q .acts + 1)) (foundRow p q ends)
-      → keptOf cells′ area′ ≡ seen p q (keptOf cells area) ends
+      → tallyOf cells′ ≡ better p q (tallyOf cells) row
+      → area′ ≡ rowPlaced area (getD cells countCell 0 * (q .acts + 1)) (q .variant ∷ row)
+      → keptOf cells′ area′ ≡ seen p q (keptOf cells area) row
   unfolding seen counted
   seen-counted cells cells′ area area′ l e f =
       (λ i. record { tally = e i; area = f i }) ∙ sym (rw (le-leb (getD cells countCell 0) (q .cap) l) refl)
 
   pub seen-enough : (cells area : List ℕ) → q .cap < getD cells countCell 0
-      → keptOf cells area ≡ seen p q (keptOf cells area) ends
+      → keptOf cells area ≡ seen p q (keptOf cells area) row
   unfolding seen
   seen-enough cells area l = sym (rw (lt-leb (getD cells countCell 0) (q .cap) l) refl)

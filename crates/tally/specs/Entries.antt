@@ -1,24 +1,22 @@
--- The schedules that count, each with the problem and the number of its variant, and what is kept after them.
+-- The schedules that count, each with the project and the number of its variant, and what is kept after them.
 use Prim.Native.Nat.{ℕ}
 use mathlib.Core.List.{List, map, foldl}
 use Rattle.base.specs.Lists.{gather}
-use Rattle.scan.specs.Model.{Problem, problemOf}
-use Rattle.scan.specs.Union.{newOf}
+use Rattle.schedule.specs.Project.{Project}
 use Rattle.tally.specs.Seen.{Kept, settingOf, seen}
-use Rattle.variant.specs.declared.Variant.{Variant}
 
 pub record Entry : Type 0 where
-  pub problem : Problem
+  pub project : Project
   pub variant : ℕ
-  pub ends : List ℕ
+  pub row : List ℕ
 
-abbrev pub entryOf : Problem → ℕ → List ℕ → Entry
-entryOf problem variant ends = record { problem = problem; variant = variant; ends = ends }
+abbrev pub entryOf : Project → ℕ → List ℕ → Entry
+entryOf project variant row = record { project = project; variant = variant; row = row }
 
--- The entries of each variant v, which x v holds in tables.
-module _ (x : ℕ → Variant) where
+-- The entries of each variant v: p v is its project, and x v are the rows that count for it.
+module _ (p : ℕ → Project) (x : ℕ → List (List ℕ)) where
   unfoldable pub entries : ℕ → List Entry
-  entries v = map (entryOf (problemOf (x v)) v) (newOf x v)
+  entries v = map (entryOf (p v) v) (x v)
 
   -- Those of the first n variants.
   abbrev pub entriesBelow : ℕ → List Entry
@@ -26,7 +24,7 @@ module _ (x : ℕ → Variant) where
 
 module _ (acts cap : ℕ) where
   abbrev pub step : Kept → Entry → Kept
-  step k e = seen (e .problem) (settingOf (e .variant) acts cap) k (e .ends)
+  step k e = seen (e .project) (settingOf (e .variant) acts cap) k (e .row)
 
   abbrev pub run : Kept → List Entry → Kept
   run k es = foldl step k es

@@ -1,21 +1,21 @@
 -- What becomes of each schedule that the search finds: it is counted, kept if it comes before the one kept, and
 -- written as a row where the area has room for it.
-use Prim.Native.Nat.{ℕ, _+_, _*_, _<_}
+use Prim.Native.Nat.{ℕ, _+_, _-_, _*_, _<_}
 use mathlib.Core.Bool.{Bool, cond}
-use mathlib.Core.List.{List, _∷_, _++_, foldl}
+use mathlib.Core.List.{List, _∷_, _++_}
 use mathlib.Core.Path.{_≡_}
 use lib.Dec.{leb}
-use lib.ListN.{length, getD, take, drop}
-use Rattle.base.specs.Lists.{keep}
+use lib.ListN.{length, getD, take, drop, replicate}
 use Rattle.base.specs.Order.{isBefore}
-use Rattle.scan.specs.Model.{lastEnd, Problem, starts, scanOf, problemOf}
-use Rattle.timetable.specs.Mark.{places, noStarts}
-use Rattle.network.specs.Network.{capOf, variantOf, actsOf, linkOf}
-use Rattle.candidates.specs.Tables.{problemIn}
+use Rattle.plan.specs.Limits.{wordValues}
+use Rattle.timetable.specs.Mark.{mark, places, noStarts}
+use Rattle.schedule.specs.Project.{Project}
+use Rattle.schedule.specs.Schedule.{latestEnd}
+use Rattle.schedule.specs.Sessions.{startsOf}
+use Rattle.instance.specs.Table.{projectIn, capOf, variantOf, actsOf, linkOf}
+use Rattle.soonest.specs.Row.{rowIn}
 use Rattle.orders.specs.Book.{isNewBy}
 use Rattle.tally.specs.declared.Tally.{Tally}
-use Rattle.plan.specs.Limits.{wordValues}
-use Rattle.variant.specs.declared.Variant.{Variant}
 
 -- The variant's number, the number of the plan's activities, and the cap.
 pub record Setting : Type 0 where
@@ -78,24 +78,25 @@ unfoldable pub rowPlaced : List ℕ → ℕ → List ℕ → List ℕ
 rowPlaced area at row =
     cond (leb (at + length row) (length area)) (take at area ++ row ++ drop (at + length row) area) area
 
-unfoldable pub foundRow : Problem → Setting → List ℕ → List ℕ
-foundRow p q ends = q .variant ∷ starts p (q .acts) ends
+-- The timetable of a row: the mark also stands for each activity number that the plan has not.
+unfoldable pub timetableOf : List ℕ → List ℕ
+timetableOf row = row ++ replicate (places - length row) mark
 
 -- Schedules are ranked by their latest end, then by their variant, then by their starts.
-abbrev pub rankOf : Problem → ℕ → List ℕ → List ℕ
-rankOf p variant ends = lastEnd ends ∷ variant ∷ starts p places ends
+abbrev pub rankOf : Project → ℕ → List ℕ → List ℕ
+rankOf p variant row = latestEnd p (startsOf row) ∷ variant ∷ timetableOf row
 
 abbrev pub rankKept : Tally → List ℕ
 rankKept t = t .«best_end» ∷ t .«best_variant» ∷ t .best .starts
 
-unfoldable pub better : Problem → Setting → Tally → List ℕ → Tally
-better p q t ends =
-    cond (isBefore (rankOf p (q .variant) ends) (rankKept t))
+unfoldable pub better : Project → Setting → Tally → List ℕ → Tally
+better p q t row =
+    cond (isBefore (rankOf p (q .variant) row) (rankKept t))
     (record {
       count = t .count + 1;
-      «best_end» = lastEnd ends;
+      «best_end» = latestEnd p (startsOf row);
       «best_variant» = q .variant;
-      best = record { starts = starts p places ends };
+      best = record { starts = timetableOf row };
     })
     (record {
       count = t .count + 1;
@@ -104,31 +105,27 @@ better p q t ends =
       best = t .best;
     })
 
-unfoldable pub counted : Problem → Setting → Kept → List ℕ → Kept
-counted p q k ends =
+unfoldable pub counted : Project → Setting → Kept → List ℕ → Kept
+counted p q k row =
     record {
-      tally = better p q (k .tally) ends;
-      area = rowPlaced (k .area) (k .tally .count * (q .acts + 1)) (foundRow p q ends);
+      tally = better p q (k .tally) row;
+      area = rowPlaced (k .area) (k .tally .count * (q .acts + 1)) (q .variant ∷ row);
     }
 
 -- Once the count is above the cap nothing more is done.
-unfoldable pub seen : Problem → Setting → Kept → List ℕ → Kept
-seen p q k ends = cond (leb (k .tally .count) (q .cap)) (counted p q k ends) k
-
--- Every new schedule of the variant with that number, in the order in which the search finds them.
-unfoldable pub allSeen : Variant → ℕ → ℕ → (List ℕ → Bool) → Kept → Kept
-allSeen x number cap isNew k = foldl (seen (problemOf x) (settingOf number (x .acts) cap)) k (keep isNew (scanOf x))
+unfoldable pub seen : Project → Setting → Kept → List ℕ → Kept
+seen p q k row = cond (leb (k .tally .count) (q .cap)) (counted p q k row) k
 
 -- The same by the search's table.
-abbrev pub rowIn : List ℕ → List ℕ → List ℕ
-rowIn t = foundRow (problemIn t) (settingIn t)
+abbrev pub lineIn : List ℕ → List ℕ → List ℕ
+lineIn t w = variantOf t ∷ rowIn t w
 
 abbrev pub rankIn : List ℕ → List ℕ → List ℕ
-rankIn t = rankOf (problemIn t) (variantOf t)
+rankIn t w = rankOf (projectIn t) (variantOf t) (rowIn t w)
 
 -- One that is not new is passed over; b is the book of the orders searched so far.
 abbrev pub isNewIn : List ℕ → List ℕ → List ℕ → Bool
-isNewIn t b = isNewBy (problemIn t) (linkOf t) b
+isNewIn t b = isNewBy (projectIn t) (linkOf t) b
 
 abbrev pub seenIn : List ℕ → List ℕ → Kept → List ℕ → Kept
-seenIn t b k ends = cond (isNewIn t b ends) (seen (problemIn t) (settingIn t) k ends) k
+seenIn t b k row = cond (isNewIn t b row) (seen (projectIn t) (settingIn t) k row) k

@@ -1,26 +1,27 @@
 // What is kept of the schedules that are found: their number, the shortest of them that comes first, and their rows.
-use candidates::Work;
-use network::ACTS;
-use network::CAP;
-use network::Table;
-use network::VARIANT;
-use network::duration_of;
+use instance::ACTS;
+use instance::CAP;
+use instance::Table;
+use instance::VARIANT;
 use plan::MOST_ACTS;
+use profile::Work;
 use timetable::Timetable;
+ghost use mathlib.Core.Bool.{true};
 ghost use mathlib.Core.Path.{_≡_};
 ghost use mathlib.Core.List.{_++_};
 ghost use Prim.Native.Nat.{_+_, _*_, _≤_, _<_};
 ghost use lib.ListN.{length, take, drop};
 ghost use Rattle.base.specs.Order.{isBefore};
-ghost use Rattle.timetable.specs.Mark.{places};
-ghost use Rattle.scan.specs.Model.{startOf, starts};
-ghost use Rattle.network.specs.Network.{actsOf, linkOf};
-ghost use Rattle.orders.specs.Book.{Rivals};
-ghost use Rattle.candidates.specs.Tables.{problemIn};
 ghost use Rattle.plan.specs.Limits.{wordValues};
-ghost use Rattle.tally.specs.Seen.{startsFrom, rowPlaced, settingIn, rowIn, keptOf, IsTally, tallyOf, better};
-ghost use Rattle.tally.specs.Seen.{seen, seenIn, noTally, rankIn, rankKept};
-ghost use Rattle.tally.specs.Leaf.{Ended, Fit, Leaf};
+ghost use Rattle.schedule.specs.Schedule.{active};
+ghost use Rattle.schedule.specs.Sessions.{startsOf};
+ghost use Rattle.instance.specs.Table.{projectIn, actsOf};
+ghost use Rattle.instance.specs.Instance.{Instance};
+ghost use Rattle.soonest.specs.Row.{Ended, rowIn};
+ghost use Rattle.orders.specs.Book.{Prior};
+ghost use Rattle.tally.specs.Seen.{startsFrom, rowPlaced, timetableOf, settingIn, lineIn, keptOf, IsTally};
+ghost use Rattle.tally.specs.Seen.{tallyOf, better, seen, seenIn, noTally, rankIn, rankKept};
+ghost use Rattle.tally.specs.Leaf.{startOf, Leaf};
 
 // How many schedules were found, and the first shortest of them: its latest end, its variant and its starts.
 pub struct Tally {
@@ -72,28 +73,28 @@ fn start_of(end: u32, duration: u32) -> u32
 
 // A row is the variant's number and then a start for each of the plan's activities.
 fn write_row(row: &mut [u32], table: &Table, work: &Work)
-    requires { ⌜ Ended (now table) (now work) × Fit (now table) × (actsOf (now table) + 1 ≤ length (now row)) ⌝ }
+    requires { ⌜ Instance (now table) × Ended (now table) (now work) × (actsOf (now table) + 1 ≤ length (now row)) ⌝ }
     ensures { λ _.
         ⌜ now (row .exit)
-        ≡ rowIn (now (table .entry)) (now (work .entry))
+        ≡ lineIn (now (table .entry)) (now (work .entry))
         ++ drop (actsOf (now (table .entry)) + 1) (now (row .entry)) ⌝ }
 {
     let acts = table[ACTS] as usize;
     row[0] = table[VARIANT];
     let mut i = 0;
     while i < acts {
-        row[1 + i] = start_of(work[i], duration_of(table[i]));
+        row[1 + i] = start_of(work[i], table[i]);
         i += 1;
     }
 }
 
 // The row in its own stretch of the area, where that is long enough.
 fn list(table: &Table, work: &Work, count: u64, area: &mut [u32])
-    requires { ⌜ Ended (now table) (now work) × Fit (now table) × (count < wordValues) ⌝ }
+    requires { ⌜ Instance (now table) × Ended (now table) (now work) × (count < wordValues) ⌝ }
     ensures { λ _.
         ⌜ now (area .exit)
         ≡ rowPlaced (now (area .entry)) (count * (actsOf (now (table .entry)) + 1))
-        (rowIn (now (table .entry)) (now (work .entry))) ⌝ }
+        (lineIn (now (table .entry)) (now (work .entry))) ⌝ }
 {
     let acts = table[ACTS] as usize;
     let at = (count as usize) * (acts + 1);
@@ -104,30 +105,30 @@ fn list(table: &Table, work: &Work, count: u64, area: &mut [u32])
 
 // The starts go into their cells.
 fn keep(table: &Table, work: &Work, cells: &mut Cells)
-    requires { ⌜ Ended (now table) (now work) × IsTally (now cells) ⌝ }
+    requires { ⌜ Instance (now table) × Ended (now table) (now work) × IsTally (now cells) ⌝ }
     ensures { λ _. ⌜ IsTally (now (cells .exit)) ⌝ }
     ensures { λ _.
         ⌜ now (cells .exit)
-        ≡ take startsFrom (now (cells .entry)) ++ starts (problemIn (now (table .entry))) places (now (work .entry)) ⌝ }
+        ≡ take startsFrom (now (cells .entry)) ++ timetableOf (rowIn (now (table .entry)) (now (work .entry))) ⌝ }
 {
     let mut i = 0;
     while i < MOST_ACTS {
-        cells[STARTS + i] = start_of(work[i], duration_of(table[i])) as u64;
+        cells[STARTS + i] = start_of(work[i], table[i]) as u64;
         i += 1;
     }
 }
 
 // The starts come before those kept.
 fn starts_before(table: &Table, work: &Work, cells: &Cells) -> bool
-    requires { ⌜ Ended (now table) (now work) × IsTally (now cells) ⌝ }
+    requires { ⌜ Instance (now table) × Ended (now table) (now work) × IsTally (now cells) ⌝ }
     ensures { λ r.
         ⌜ r
-        ≡ isBefore (starts (problemIn (now (table .entry))) places (now (work .entry)))
+        ≡ isBefore (timetableOf (rowIn (now (table .entry)) (now (work .entry))))
         (drop startsFrom (now (cells .entry))) ⌝ }
 {
     let mut i = 0;
     while i < MOST_ACTS {
-        let start = start_of(work[i], duration_of(table[i])) as u64;
+        let start = start_of(work[i], table[i]) as u64;
         if start != cells[STARTS + i] {
             return start < cells[STARTS + i];
         }
@@ -160,8 +161,8 @@ fn rank(table: &Table, work: &Work, latest: u32, cells: &mut Cells)
     ensures { λ _. ⌜ IsTally (now (cells .exit)) ⌝ }
     ensures { λ _.
         ⌜ tallyOf (now (cells .exit))
-        ≡ better (problemIn (now (table .entry))) (settingIn (now (table .entry))) (tallyOf (now (cells .entry)))
-        (now (work .entry)) ⌝ }
+        ≡ better (projectIn (now (table .entry))) (settingIn (now (table .entry))) (tallyOf (now (cells .entry)))
+        (rowIn (now (table .entry)) (now (work .entry))) ⌝ }
 {
     cells[COUNT] = cells[COUNT] + 1;
     if is_before(table, work, latest, cells) {
@@ -177,8 +178,8 @@ pub fn leave(table: &Table, work: &Work, latest: u32, cells: &mut Cells, area: &
     ensures { λ _. ⌜ IsTally (now (cells .exit)) ⌝ }
     ensures { λ _.
         ⌜ keptOf (now (cells .exit)) (now (area .exit))
-        ≡ seen (problemIn (now (table .entry))) (settingIn (now (table .entry)))
-        (keptOf (now (cells .entry)) (now (area .entry))) (now (work .entry)) ⌝ }
+        ≡ seen (projectIn (now (table .entry))) (settingIn (now (table .entry)))
+        (keptOf (now (cells .entry)) (now (area .entry))) (rowIn (now (table .entry)) (now (work .entry))) ⌝ }
 {
     if cells[COUNT] <= table[CAP] as u64 {
         list(table, work, cells[COUNT], area);
@@ -196,12 +197,13 @@ pub fn leave_new(
     area: &mut [u32],
 )
     requires { ⌜ Leaf (now table) (now work) latest (now cells)
-        × Rivals (problemIn (now table) .preds) (linkOf (now table)) (now book) ⌝ }
+        × Prior (now table) (now book)
+        × (active (projectIn (now table)) (startsOf (rowIn (now table) (now work))) ≡ true) ⌝ }
     ensures { λ _. ⌜ IsTally (now (cells .exit)) ⌝ }
     ensures { λ _.
         ⌜ keptOf (now (cells .exit)) (now (area .exit))
         ≡ seenIn (now (table .entry)) (now (book .entry)) (keptOf (now (cells .entry)) (now (area .entry)))
-        (now (work .entry)) ⌝ }
+        (rowIn (now (table .entry)) (now (work .entry))) ⌝ }
 {
     if orders::is_new(table, work, book) {
         leave(table, work, latest, cells, area);

@@ -10,8 +10,9 @@ use native.Mathlib.Omega.{arith}
 use lib.Dec.{T, T-not, leb, eqb, eqb-refl}
 use lib.ListN.{length}
 use borrow.Author.Tests.{leb-true, le-leb}
-use Rattle.plan.specs.Limits.{mostChildren, isResourceCount, isActCount, isNodeCount, isChildCount}
-use Rattle.plan.specs.Plan.{Node, Plan, letterOf, isActivity, isNode, isPlan}
+use Rattle.plan.specs.Limits.{mostChildren, isEdition, isResourceCount, isCapacity, isActCount, isNodeCount}
+use Rattle.plan.specs.Limits.{isChildCount}
+use Rattle.plan.specs.Plan.{Node, Plan, letterOf, isActivity, isWithin, isNode, isPlan}
 use Rattle.base.specs.Lists.{every}
 use Rattle.plan.specs.Plan
 use Rattle.term.specs.Term.{Term, Forest, act, seq, pll, xor, nil, cons, size, nodes, nodesOfAll, firsts}
@@ -247,7 +248,9 @@ full-termOf ns n t h e = full-nodes t n (ap (every (isNode n)) (nodes-termOf ns 
 pub plan-full : (p : Plan) (t : Term) → isPlan p ≡ true → termOf (p .nodes) ≡ some t → full t ≡ true
 plan-full p t ranges =
     let others =
-    isResourceCount (p .resources) && isActCount (length (p .activities))
-    && every (isActivity (p .resources)) (p .activities) && isNodeCount (length (p .nodes)) in
+    isEdition (p .edition) && isResourceCount (length (p .capacities))
+    && every (isCapacity (p .edition)) (p .capacities) && isActCount (length (p .activities))
+    && every (isActivity (p .edition) (length (p .capacities))) (p .activities)
+    && every (λ a. isWithin (p .capacities) (a .units)) (p .activities) && isNodeCount (length (p .nodes)) in
     let n = length (p .activities) in
     full-termOf (p .nodes) n t (and-right others (every (isNode n) (p .nodes)) ranges)

@@ -54,14 +54,14 @@ module _ (p : Plan) (t : Term) (valid : Valid p t) where
 
     tested : (S : Starts) → Keeps p (variantAt t v) S → Feasible (projectOf p (variantAt t v)) S
     tested S k =
-        feasible-is (projectOf p (variantAt t v)) S (keeps-of p (variantAt t v) (valid .ranges) inside S k)
+        feasible-is (projectOf p (variantAt t v)) S (keeps-of p (variantAt t v) inside S k)
 
     in-words : (S : Starts) → Feasible (projectOf p (variantAt t v)) S → SessionOfVariant p t v S
     in-words S f =
         record {
           below = below;
           keeps =
-              keeps-is p (variantAt t v) (valid .ranges) inside S (feasible-of (projectOf p (variantAt t v)) S f);
+              keeps-is p (variantAt t v) inside S (feasible-of (projectOf p (variantAt t v)) S f);
         }
 
   -- The first shortest pair is a shortest session,
@@ -80,7 +80,7 @@ module _ (p : Plan) (t : Term) (valid : Valid p t) where
         record {
           below = below;
           session =
-              session-means p (variantAt t v) (valid .ranges) (inside v below) (timetableOf p ss) .0
+              session-means p (variantAt t v) (inside v below) (timetableOf p ss) .0
               (pair-checks p t valid v ss (first .one-of));
           own = pair-span p t valid v ss (first .one-of);
           least = least;

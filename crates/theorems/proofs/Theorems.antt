@@ -17,6 +17,7 @@ use Rattle.plan.specs.declared.Refusal.the-variants.{OverCap}
 use Rattle.format.specs.Text.{text}
 use Rattle.format.proofs.Longest.{longestPlan}
 use Rattle.timetable.specs.Mark.{mark}
+use Rattle.schedule.specs.Schedule.{Starts}
 use Rattle.schedule.specs.Sessions.{startsOf, sessions}
 use Rattle.term.specs.Term.{Term, full, termOf}
 use Rattle.term.specs.Valid.{Valid, HasVariant}
@@ -28,14 +29,14 @@ use Rattle.term.proofs.Reduced.{variants-reduced}
 use Rattle.term.proofs.Twice.{twice-clash, twice-means}
 use Rattle.variant.specs.Pairs.{pairs, pairCount}
 use Rattle.variant.specs.Project.{variantAt, projectOf}
-use Rattle.variant.specs.Tables.{IsVariant}
-use Rattle.variant.specs.declared.Variant.{Variant}
-use Rattle.scan.specs.Model.{problemOf}
+use Rattle.variant.specs.Words.{Keeps, KeepsApart}
+use Rattle.scan.specs.Components.{componentOf}
 use Rattle.scan.specs.Scan.{schedules}
 use Rattle.variant.specs.Timetable.{isSession, timetableOf}
 use Rattle.variant.specs.Written.{dissolved}
 use Rattle.variant.proofs.Dissolve.{dissolved-full}
-use Rattle.variant.proofs.RoundTrip.{variant-full}
+use Rattle.variant.proofs.RoundTrip.{variant-full, variant-below}
+use Rattle.variant.proofs.Words.{keeps-apart}
 use Rattle.judge.specs.Judge.{Verdict, accepts, judge}
 use Rattle.judge.proofs.Accepts.{accepted-valid, valid-accepted, accepted-short, longestTerm, longest-accepted}
 use Rattle.write.specs.Answer.{writeOf}
@@ -75,8 +76,8 @@ demand-1 s = (unfit-turned-back s, untouched s)
 -- Definition 2, each once per variant. A variant written out reads back as that variant."
 --
 -- The variants are the reduced terms of document 000; what LIST leaves in the area when it answers n rows is that
--- listing, in which a session that several variants have is there once, under the lowest; and the bytes that WRITE leaves
--- are accepted as the variant.
+-- listing, in which a session that several variants have is there once, under the lowest; and the bytes that WRITE
+-- leaves are accepted as the variant.
 pub demand-2 : (s : List ℕ) (p : Plan) (t : Term) → judge s ≡ accepts p t
     → ((w : Term) → List·Memᴰ w (variants t) ↔ Reduced t w)
     × ((cap n : ℕ) (before after : List ℕ) → listOf s cap before ≡ record { answer = Listed n; area = after }
@@ -89,9 +90,9 @@ demand-2 s p t accepted = (
   λ v n area after. round-trip s v area n after,
 )
 
--- The listing that LIST writes is the list of pairs: every active session of every variant, under the lowest variant for
--- which it is active, increasing strictly by the variant and then by the starts of the present activities. Its sessions
--- are the plain union of document 000, and none of them is there twice over the whole plan.
+-- The listing that LIST writes is the list of pairs: every active session of every variant, under the lowest variant
+-- for which it is active, increasing strictly by the variant and then by the starts of the present activities. Its
+-- sessions are the plain union of document 000, and none of them is there twice over the whole plan.
 pub listing-union : (p : Plan) (t : Term) → Valid p t → Listing p t (pairs p t)
 listing-union = pairs-listing
 
@@ -153,11 +154,18 @@ first-shortest-row s p t accepted cap l =
           (shortest-between p t valid v ss first),
     )
 
--- The scan of document 000, section 4.2, gives exactly the active schedules of a variant, each once: its Theorem 2. The
--- variant x is in tables.
-pub scan-theorem : (p : Plan) (t : Term) (v : ℕ) → HasVariant p t v → (x : Variant) → IsVariant p (variantAt t v) x
-    → Perm (schedules (problemOf x) (length (p .activities)) (x .present)) (sessions (projectOf p (variantAt t v)) mark)
+-- The scan of document 000, section 4.2, over units and by the components of the project, gives exactly the active
+-- schedules of a variant, each once: its Theorem 2.
+pub scan-theorem : (p : Plan) (t : Term) (v : ℕ) → HasVariant p t v
+    → Perm (schedules (projectOf p (variantAt t v)) (componentOf (projectOf p (variantAt t v))) mark)
+    (sessions (projectOf p (variantAt t v)) mark)
 scan-theorem = variant-scan
+
+-- A plan of the first edition says what document 01 says: each activity starts no earlier than the end of all that
+-- precede it, and two on one resource do not overlap.
+pub first-edition : (p : Plan) (t : Term) (v : ℕ) → HasVariant p t v → p .edition ≡ 1 → (S : Starts)
+    → Keeps p (variantAt t v) S ↔ KeepsApart p (variantAt t v) S
+first-edition p t v c first S = keeps-apart p (variantAt t v) (variant-below p t v c) S (c .valid .ranges) first
 
 -- Which files are accepted: exactly the texts of valid plans.
 pub accepted-texts : (s : List ℕ) (p : Plan) (t : Term) → (judge s ≡ accepts p t) ↔ (Valid p t × (s ≡ text p))
@@ -177,7 +185,7 @@ pub listed-sessions : (p : Plan) (t : Term) → Valid p t → (v : ℕ) (starts 
     → isSession p (variantAt t v) (timetableOf p starts) ≡ true
 listed-sessions = pair-checks
 
--- No accepted file is longer than 983 bytes, and one is as long.
+-- No accepted file is longer than 2175 bytes, and one is as long.
 pub longest-file : ((s : List ℕ) (p : Plan) (t : Term) → judge s ≡ accepts p t → length s ≤ longest)
     × ((s : List ℕ) × (p : Plan) × (t : Term) × (judge s ≡ accepts p t) × (length s ≡ longest))
 longest-file =

@@ -7,7 +7,7 @@ use lib.ListN.{length}
 use Rattle.plan.specs.Plan.{Plan}
 use Rattle.term.specs.Term.{Term}
 use Rattle.term.specs.Variants.{variantCount}
-use Rattle.schedule.specs.Bounds.{Chain, chainLength, demand, work}
+use Rattle.schedule.specs.Bounds.{Chain, chainLength, loadOf, work}
 use Rattle.schedule.specs.Schedule.{Starts}
 use Rattle.schedule.specs.Sessions.{startsOf}
 use Rattle.variant.specs.Project.{variantAt, projectOf}
@@ -41,9 +41,10 @@ pub record ShortestSession (p : Plan) (t : Term) (v span : ℕ) (timetable : Lis
   pub least : (u : ℕ) (S : Starts) → SessionOfVariant p t u S → span ≤ makespanIn p t u S
   pub exactly : (u : ℕ) (S : Starts) → SessionOfVariant p t u S → (makespanIn p t u S ≡ span) ↔ Unbeaten p t u S
 
--- The makespan is at least each chain and each resource's load of the variant, and at most the sum of its durations.
+-- The makespan is at least each chain and each resource's load of the variant, the load rounded up, and at most the sum
+-- of its durations.
 pub record Between (p : Plan) (t : Term) (v span : ℕ) : Type 0 where
   pub chains : (i : ℕ) (js : List ℕ) → Chain (projectOf p (variantAt t v)) i js
       → chainLength (projectOf p (variantAt t v)) i js ≤ span
-  pub loads : (r : ℕ) → r < p .resources → demand (projectOf p (variantAt t v)) r ≤ span
+  pub loads : (r : ℕ) → r < length (p .capacities) → loadOf (projectOf p (variantAt t v)) r ≤ span
   pub at-most : span ≤ work (projectOf p (variantAt t v))

@@ -1,359 +1,454 @@
--- The loop of the moves without a branch: where it has led from a state, and what a move, a freeze and a conflict keep.
-use Prim.Native.Nat.{ℕ, suc, _+_, _-_, _/_, _^_, _≤_, _<_, max}
+-- The loop of the moves without a branch: what it keeps, and why it ends.
+use Prim.Native.Nat.{ℕ, _+_, _-_, _*_, _^_, _≤_, _<_, max}
+use native.Mathlib.Decide.{ℕ-discrete}
+use native.Mathlib.Nat.{le-antisymm}
 use native.Mathlib.Omega.{arith}
-use mathlib.Core.Bool.{true}
+use mathlib.Core.Bool.{Bool, true, false, not, cond, _&&_, and-true, and-false}
 use mathlib.Core.List.{List}
-use mathlib.Core.Logic.{_≢_}
-use mathlib.Core.Path.{_≡_, refl, sym, ap, ap₂, _∙_, subst, subst₂}
+use mathlib.Core.Logic.{_≢_, by-cases}
+use mathlib.Core.Path.{_≡_, refl, sym, ap, ap₂, _∙_}
 use lib.Bits.{bitAnd}
-use lib.ListN.{set}
-use lib.Seq.{getD-set-other}
-use Rattle.base.proofs.Bools.{by-bool, true-not-false}
-use Rattle.plan.specs.Limits.{packing, latestPossible}
-use Rattle.sets.specs.Sets.{most, has, size}
+use lib.Dec.{leb, eqb}
+use lib.ListN.{getD, set}
+use lib.Seq.{getD-set-same, getD-set-other}
+use borrow.Author.Tests.{eq-eqb, ne-eqb}
+use Rattle.base.proofs.Bools.{by-bool, true-not-false, both, and-left, and-right, cond-true, cond-false}
+use Rattle.base.proofs.Below.{sum-le, cond-le, cond-mono, max-term, max-least, max-eq}
+use Rattle.sets.specs.Sets.{most, has, size, meet}
 use Rattle.sets.specs.Lowest.{lowestOf, afterLowest}
-use Rattle.sets.proofs.Laws.{size-without}
-use Rattle.sets.proofs.Members.{after-none}
-use Rattle.scan.specs.Model.{State, key, isChoice, freeze, leaves}
-use Rattle.candidates.specs.Tables.{problemIn}
-use Rattle.candidates.specs.Work.{leastAt, crowd, Timed, readyFrom, freeFrom}
-use Rattle.candidates.proofs.Crowd.{crowd-some}
-use Rattle.tally.specs.Leaf.{Fit}
-use Rattle.moves.specs.Moves.{waitingIn, unfrozenIn, frozenLine}
-use Rattle.moves.specs.declared.Line.{Line}
-use Rattle.unbranched.specs.AtLine.{Base, OnLine, BesideLine, MovesOn}
-use Rattle.unbranched.specs.declared.Ahead.{Ahead}
-use Rattle.unbranched.specs.declared.Stop.{Stop}
-use Rattle.unbranched.proofs.Parts.{timed-store, stays}
-use Rattle.unbranched.proofs.Frozen.{base-same}
-use Rattle.unbranched.specs.Run.{Run, freezes, jumps, bothIn, hereIn, Advances}
-use Rattle.unbranched.proofs.Unbranched.{jumped, tick-low, tick-is, key-is, here-low, here-some}
-use Rattle.unbranched.proofs.Unbranched.{choice-is, low, member, leaves-below, frozen-base, frozen-line}
-use Rattle.unbranched.proofs.Unbranched.{many-fewer, many-same}
+use Rattle.sets.proofs.Laws.{has-minus, has-none, has-without, meet-of, size-without}
+use Rattle.sets.proofs.Members.{lowest-is, lowest-has}
+use Rattle.sets.proofs.Turns.{Turn, turned, one-member}
+use Rattle.scan.specs.Scan.{Diagram}
+use Rattle.instance.specs.Instance.{Laid, ownOf, Instance}
+use Rattle.instance.specs.Table.{actsOf, componentAt}
+use Rattle.instance.proofs.Own.{component-alike}
+use Rattle.profile.specs.Work.{endAt, latestOf}
+use Rattle.crowding.specs.Crowd.{crowd, Acts, Fewer}
+use Rattle.crowding.proofs.Crowd.{crowd-some}
+use Rattle.steps.specs.Steps.{frozenIn, runningIn, looseIn}
+use Rattle.steps.specs.declared.Line.{Line}
+use Rattle.steps.proofs.Loops.{common-low}
+use Rattle.steps.proofs.Sets.{frozen-of, frozen-is, loose-is}
+use Rattle.unbranched.specs.Position.{Position, Beside, isRunningOn, runningOn, Leads, Onward}
+use Rattle.unbranched.specs.Advance.{frozenLine, bothIn, hereIn, Advances}
+use Rattle.unbranched.proofs.Onward.{beside-itself}
+use Rattle.unbranched.proofs.Alone.{direct-one, own-c, acts-c, here-of, here-is, alone-leads}
 
--- Where the moves have led from the state s: the schedules are those below the state there.
-pub record Reached (t : List ℕ) (l : Line) (last : ℕ) (w : List ℕ) (rivals : ℕ) (s : State) : Type 0 where
-  pub state : State
-  pub base : Base t (l .left) last w state
-  pub on : OnLine t l w state
-  pub alike : leaves (problemIn t) (suc (size (s .left) most)) s
-      ≡ leaves (problemIn t) (suc (size (state .left) most)) state
-  pub contested : 0 < rivals → (0 < afterLowest rivals)
-      × ((i : ℕ) → i < most → has rivals i ≡ isChoice (problemIn t) state (key (problemIn t) state) i)
-      × (l .tick ≡ key (problemIn t) state / packing)
-      × (rivals < 2 ^ most)
+-- So far.
+pub record Advancing (t : List ℕ) (l : Line) (w w′ : List ℕ) (line : Line) (last many rivals : ℕ) : Type 0 where
+  pub beside : Beside t l w w′
+  pub fewer : (i : ℕ) → has (line .left) i ≡ true → has (l .left) i ≡ true
+  pub more : (i : ℕ) → has (l .placed) i ≡ true → has (line .placed) i ≡ true
+  pub many-is : many ≡ crowd t (line .left)
+  pub last-is : last ≡ latestOf w′ (frozenIn line)
+  pub here : 0 < rivals → (0 < line .due) × (rivals ≡ hereIn t line)
+  pub several : 0 < rivals → afterLowest rivals ≡ 0 → meet rivals (line .passed) ≡ true
+  pub leads : (d : Diagram) → Position t l w d → Leads t d line w′
+  pub some : (d : Diagram) × Position t l w d
 
--- The steps of the scan lead from one line and working array to another.
-abbrev pub Leads : List ℕ → Line → List ℕ → Line → List ℕ → Type 0
-Leads t l w l′ w′ = (present : ℕ) → Run t present l w → Run t present l′ w′
+-- The line once the only one of the first component that is due is frozen.
+abbrev pub aloneLine : List ℕ → Line → Line
+aloneLine t l = frozenLine l (lowestOf (hereIn t l)) (lowestOf (l .due))
 
--- The loop's invariant: the working array is as at the start but for what the moves may change.
-pub record Advancing (t : List ℕ) (start : Line) (latest : ℕ) (w₀ w : List ℕ) (l : Line) (last many rivals k : ℕ)
-    : Type 0 where
-  pub beside : BesideLine t start w₀ w
-  pub runs : Leads t start w₀ l w
-  pub fewer : (i : ℕ) → has (l .left) i ≡ true → has (start .left) i ≡ true
-  pub more : (i : ℕ) → has (start .placed) i ≡ true → has (l .placed) i ≡ true
-  pub crowded : many ≡ crowd t (l .left)
-  pub first : k ≡ leastAt t w (unfrozenIn l)
-  pub here : 0 < rivals → (rivals ≡ hereIn t l k) × (l .tick ≡ k / packing)
-  pub reached : (s : State) → Base t (start .left) latest w₀ s → OnLine t start w₀ s → Reached t l last w rivals s
+pub alone-is : (t : List ℕ) (l r : Line) (i c : ℕ) → r ≡ frozenLine l i c
+    → i ≡ lowestOf (hereIn t l)
+    → c ≡ lowestOf (l .due)
+    → r ≡ aloneLine t l
+alone-is t l r i c e on first = e ∙ ap₂ (frozenLine l) on first
 
-pub advancing-start : {t : List ℕ} {l : Line} {latest : ℕ} {w : List ℕ} {many k : ℕ} → Timed t w
-    → many ≡ crowd t (l .left) → k ≡ leastAt t w (unfrozenIn l)
-    → Advancing t l latest w w l latest many 0 k
-advancing-start timed crowded first =
+-- What is left to do.
+abbrev pub ifNone : ℕ → ℕ
+ifNone x = cond (eqb x 0) 1 0
+
+abbrev pub toDo : List ℕ → Line → ℕ → ℕ
+toDo w line rivals = 2 * (size (line .left) most + runningOn w line) + ifNone (line .due) + ifNone rivals
+
+pub if-none : (x : ℕ) → x ≡ 0 → 1 ≤ ifNone x
+if-none x e = let one : ℕ = 1 in omega (arith, cond-true one 0 (eq-eqb x 0 e))
+
+pub if-some : (x : ℕ) → x ≢ 0 → ifNone x ≤ 0
+if-some x ne = let one : ℕ = 1 in omega (arith, cond-false one 0 (ne-eqb x 0 ne))
+
+pub if-most : (x : ℕ) → ifNone x ≤ 1
+if-most x = cond-le (eqb x 0) 1
+
+pub leads-itself : (t : List ℕ) (l : Line) (w : List ℕ) (d : Diagram) → Position t l w d → Leads t d l w
+leads-itself t l w d at = record { to = d; position = at; same = λ rows all. all }
+
+leads-on : (t : List ℕ) (d : Diagram) (l l′ : Line) (w w′ : List ℕ) → Leads t d l w
+    → ((e : Diagram) → Position t l w e → Leads t e l′ w′)
+    → Leads t d l′ w′
+leads-on t d l l′ w w′ first then =
+    let second = then (first .to) (first .position) in
     record {
-      beside =
-          record { timed = timed; ends = λ i b n. refl; ready = λ i b h. refl; free = λ r b. refl };
-      runs = λ present run. run;
-      fewer = λ i h. h;
-      more = λ i h. h;
-      crowded = crowded;
-      first = first;
-      here = λ z. absurd (omega arith);
-      reached =
-          λ s base on. record { state = s; base = base; on = on; alike = refl; contested = λ z. absurd (omega arith) };
+      to = second .to;
+      position = second .position;
+      same = λ rows all. first .same rows (second .same rows all);
     }
 
--- A line by its parts.
-line-is : {l l′ : Line} → l .tick ≡ l′ .tick → l .placed ≡ l′ .placed → l .left ≡ l′ .left → l .term ≡ l′ .term
-    → l ≡ l′
-line-is {l} {l′} tick placed left term =
-    ap₂ (λ (a b : ℕ). record { tick = a; placed = b; left = l .left; term = l .term }) tick placed
-    ∙ ap₂ (λ (a b : ℕ). record { tick = l′ .tick; placed = l′ .placed; left = a; term = b }) left term
+max-le-both : {a b c : ℕ} → a ≤ c → b ≤ c → max a b ≤ c
+max-le-both x y = omega (arith, x, y)
 
--- A jump is such a move as well.
-pub jump-moves : {t : List ℕ} {l : Line} {w : List ℕ} {k : ℕ} {r : Ahead} → Fit t → Timed t w
-    → waitingIn l ≡ 0 → l .tick < k / packing → k ≡ leastAt t w (unfrozenIn l)
-    → (r .line .tick ≡ k / packing) × (r .line .placed ≡ l .placed) × (r .line .left ≡ l .left)
-    × (r .line .term ≡ l .term) × (r .key ≡ k)
-    → MovesOn t l w w r
-jump-moves {t} {l} {w} {k} {r} fit timed nothing ahead is (tick, placed, left, term, first) =
+-- What was frozen, placed and left before is so after.
+pub beside-on : (t : List ℕ) (l line : Line) (w w′ w″ : List ℕ)
+    → ((i : ℕ) → has (line .left) i ≡ true → has (l .left) i ≡ true)
+    → ((i : ℕ) → has (l .placed) i ≡ true → has (line .placed) i ≡ true)
+    → Beside t l w w′
+    → Beside t line w′ w″
+    → Beside t l w w″
+beside-on t l line w w′ w″ fewer more first second =
     record {
-      beside =
-          record { timed = timed; ends = λ i b n. refl; ready = λ i b h. refl; free = λ r b. refl };
-      left = left;
-      placed = λ i h. ap (λ (x : ℕ). has x i) placed ∙ h;
-      later = omega arith;
-      first = first ∙ is ∙ ap₂ (λ (x y : ℕ). leastAt t w (bitAnd x y)) (sym placed) (sym left);
-      at =
-          λ latest s base on.
-          subst (λ (x : Line). OnLine t x w s) (sym (line-is tick placed left term))
-          (jumped fit (timed .size) base on is nothing ahead);
+      timed = second .timed;
+      ends =
+          λ i b z.
+          second .ends i b (by-bool (has (line .left) i) (λ y. true-not-false (fewer i y) z) (λ n. n))
+          ∙ first .ends i b z;
+      ready = λ i b y. second .ready i b (more i y) ∙ first .ready i b y;
+      free = λ c b. second .free c b ∙ first .free c b;
     }
 
-pub jump-leads : {t : List ℕ} {l : Line} {w : List ℕ} {k : ℕ} {r : Ahead}
-    → waitingIn l ≡ 0 → l .left ≢ 0 → l .tick < k / packing → k ≡ leastAt t w (unfrozenIn l)
-    → (r .line .tick ≡ k / packing) × (r .line .placed ≡ l .placed) × (r .line .left ≡ l .left)
-    × (r .line .term ≡ l .term) × (r .key ≡ k)
-    → Leads t l w (r .line) w
-jump-leads {t} {w = w} nothing some ahead is (tick, placed, left, term, first) present run =
-    subst (λ (x : Line). Run t present x w) (sym (line-is tick placed left term))
-    (jumps run is ahead nothing (omega (arith, some)))
+pub here-low : (t : List ℕ) → Laid t → (l : Line) → lowestOf (l .due) < most → hereIn t l < 2 ^ most
+here-low t laid l below =
+    let c = lowestOf (l .due) in
+    common-low (bothIn t l) (l .placed) (common-low (componentAt t c) (l .left) (laid .component-low c below))
 
--- The measure of the loop.
-abbrev pub toGo : Line → ℕ → ℕ
-toGo l rivals = latestPossible - l .tick + size (l .left) most + (1 - rivals)
+-- At the start.
+pub advancing : (t : List ℕ) (l : Line) (w : List ℕ) (last many : ℕ) → last ≡ latestOf w (frozenIn l)
+    → many ≡ crowd t (l .left)
+    → ((d : Diagram) × Position t l w d)
+    → Advancing t l w w l last many 0
+advancing t l w last many last-is many-is start =
+    record {
+      beside = beside-itself t l w (start .1 .sets .timed);
+      fewer = λ i y. y;
+      more = λ i y. y;
+      many-is = many-is;
+      last-is = last-is;
+      here = λ k. absurd (omega (arith, k));
+      several = λ k. absurd (omega (arith, k));
+      leads = leads-itself t l w;
+      some = start;
+    }
 
-module _ {t : List ℕ} (fit : Fit t) {start : Line} {latest : ℕ} {w₀ w : List ℕ} {l : Line} {last many rivals k : ℕ}
-    (h : Advancing t start latest w₀ w l last many rivals k) where
-  module _ {s₀ : State} (base₀ : Base t (start .left) latest w₀ s₀) (on₀ : OnLine t start w₀ s₀) where
-    pub here-now : Reached t l last w rivals s₀
-    here-now = h .reached s₀ base₀ on₀
+-- At the end.
+pub advanced : (t : List ℕ) (l : Line) (w w′ : List ℕ) (line : Line) (last many rivals : ℕ)
+    → Advancing t l w w′ line last many rivals
+    → (rivals ≡ 0 → many ≡ 0)
+    → Advances t l w w′ record { line = line; latest = last; many = many; rivals = rivals }
+advanced t l w w′ line last many rivals so-far settled =
+    record {
+      beside = so-far .beside;
+      fewer = so-far .fewer;
+      more = so-far .more;
+      many = so-far .many-is;
+      settled = settled;
+      last = so-far .last-is;
+      here = so-far .here;
+      several = so-far .several;
+      leads = so-far .leads;
+    }
 
-    pub left-some : many ≢ 0 → l .left ≢ 0
-    left-some busy z =
+module _ {t : List ℕ} {l : Line} {w w′ : List ℕ} {line : Line} {last many rivals : ℕ} (given : Instance t)
+    (so-far : Advancing t l w w′ line last many rivals) (none : rivals ≡ 0) where
+  pub here-now : (d : Diagram) × Position t line w′ d
+  here-now =
+      let (d, start) = so-far .some in
+      let on = so-far .leads d start in
+      (on .to, on .position)
+
+  abbrev at : Position t line w′ (here-now .0)
+  at = here-now .1
+
+  -- While some may yet be contested, some are left.
+  pub some-left : many ≢ 0 → 0 < line .left
+  some-left ne = crowd-some t (line .left) (omega (arith, so-far .many-is, ne))
+
+  -- A move on.
+  module _ (w″ : List ℕ) (r : Line) (onward : Onward t line w′ w″ r) where
+    frozen-same : (i : ℕ) → has (frozenIn r) i ≡ true → has (frozenIn line) i ≡ true
+    frozen-same i y =
+        let (there, off) = frozen-is r i y in
+        let gone : has (line .left) i ≡ false = ap (λ (x : ℕ). has x i) (sym (onward .left)) ∙ off in
+        by-bool (has (line .placed) i) (λ old. frozen-of line i old gone)
+        (λ z. true-not-false (onward .new i there z) gone)
+
+    pub advance-on : Advancing t l w w″ r last many rivals
+    advance-on =
+        record {
+          beside = beside-on t l line w w′ w″ (so-far .fewer) (so-far .more) (so-far .beside) (onward .beside);
+          fewer = λ i y. so-far .fewer i (ap (λ (x : ℕ). has x i) (sym (onward .left)) ∙ y);
+          more = λ i y. onward .more i (so-far .more i y);
+          many-is = so-far .many-is ∙ ap (crowd t) (sym (onward .left));
+          last-is = so-far .last-is ∙ latest-same;
+          here = λ k. absurd (omega (arith, k, none));
+          several = λ k. absurd (omega (arith, k, none));
+          leads = λ d start. leads-on t d line r w′ w″ (so-far .leads d start) (onward .leads);
+          some = so-far .some;
+        }
+      where
+        frozen-more : (i : ℕ) → has (frozenIn line) i ≡ true → has (frozenIn r) i ≡ true
+        frozen-more i y =
+            let (there, off) = frozen-is line i y in
+            frozen-of r i (onward .more i there) (ap (λ (x : ℕ). has x i) (onward .left) ∙ off)
+
+        latest-same : latestOf w′ (frozenIn line) ≡ latestOf w″ (frozenIn r)
+        latest-same =
+            max-eq most (λ i. cond (has (frozenIn line) i) (endAt w′ i) 0)
+            (λ i. cond (has (frozenIn r) i) (endAt w″ i) 0)
+            (λ i b.
+            by-bool (has (frozenIn line) i)
+            (λ y.
+            cond-true (endAt w′ i) 0 y ∙ sym (onward .beside .ends i b (frozen-is line i y .1))
+            ∙ sym (cond-true (endAt w″ i) 0 (frozen-more i y)))
+            (λ z.
+            cond-false (endAt w′ i) 0 z
+            ∙ sym
+            (cond-false (endAt w″ i) 0
+            (by-bool (has (frozenIn r) i) (λ y. true-not-false (frozen-same i y) z) (λ n. n)))))
+
+    pub less-on : line .due ≡ 0 → toDo w″ r rivals < toDo w′ line rivals
+    less-on resolved =
+        by-cases (ℕ-discrete (r .due) 0)
+        (λ e.
         omega (
           arith,
-          after-none (l .left) z,
-          crowd-some t (l .left) (here-now .on .sets .left) (omega (arith, h .crowded, busy)),
-        )
+          ap (λ (x : ℕ). size x most) (onward .left),
+          onward .less e,
+          if-none (line .due) resolved,
+          if-most (r .due),
+        ))
+        (λ ne.
+        omega (
+          arith,
+          ap (λ (x : ℕ). size x most) (onward .left),
+          onward .fewer,
+          if-none (line .due) resolved,
+          if-some (r .due) ne,
+        ))
 
-    pub line-low : many ≢ 0 → l .tick ≤ latestPossible
-    line-low busy = tick-low fit (h .beside .timed .size) (here-now .base) (here-now .on) (left-some busy)
+  -- Some of the first component that is due are placed.
+  module _ (due : 0 < line .due) where
+    abbrev c : ℕ
+    c = lowestOf (line .due)
 
-  -- ---- the line moves
+    abbrev j : ℕ
+    j = lowestOf (hereIn t line)
 
-  pub moved : {w′ : List ℕ} {r : Ahead} → rivals ≡ 0 → MovesOn t l w w′ r → Leads t l w (r .line) w′
-      → Advancing t start latest w₀ w′ (r .line) last many rivals (r .key)
-  moved {w′} {r} calm m leads =
-      record {
-        beside =
+    pub due-c : has (line .due) (lowestOf (line .due)) ≡ true
+    due-c = lowest-has (line .due) c (at .sets .due-low) (λ e. omega (arith, due, e)) refl
+
+    least-c : (b : ℕ) → b < lowestOf (line .due) → has (line .due) b ≡ false
+    least-c = lowest-is (line .due) (at .sets .due-low) (λ e. omega (arith, due, e)) .none
+
+    pub below-c : lowestOf (line .due) < most
+    below-c = omega (arith, acts-c t given line w′ (here-now .0) at c due-c, given .laid .acts)
+
+    pub here-some : 0 < hereIn t line
+    here-some =
+        let (i, y, on, _) = direct-one t given line w′ (here-now .0) at c due-c in
+        by-cases (ℕ-discrete (hereIn t line) 0)
+        (λ e.
+        absurd
+        (true-not-false (here-of t given line w′ (here-now .0) at c due-c i y on)
+        (ap (λ (x : ℕ). has x i) e ∙ has-none i)))
+        (λ ne. omega (arith, ne))
+
+    -- Several contest it.
+    pub advance-rivals : (here : ℕ) → here ≡ hereIn t line
+        → (afterLowest here ≡ 0 → meet here (line .passed) ≡ true)
+        → Advancing t l w w′ line last many here
+    advance-rivals here e one =
+        record {
+          beside = so-far .beside;
+          fewer = so-far .fewer;
+          more = so-far .more;
+          many-is = so-far .many-is;
+          last-is = so-far .last-is;
+          here = λ k. (due, e);
+          several = λ k. one;
+          leads = so-far .leads;
+          some = so-far .some;
+        }
+
+    pub less-rivals : (here : ℕ) → here ≡ hereIn t line → toDo w′ line here < toDo w′ line rivals
+    less-rivals here e = omega (arith, if-some here (λ z. omega (arith, here-some, e, z)), if-none rivals none)
+
+    -- One alone is frozen.
+    module _ (single : afterLowest (hereIn t line) ≡ 0) (free : meet (hereIn t line) (line .passed) ≡ false) where
+      turn : Turn (hereIn t line) (afterLowest (hereIn t line)) j
+      turn =
+          turned (hereIn t line) (afterLowest (hereIn t line)) j (here-low t (given .laid) line below-c)
+          (λ e. omega (arith, here-some, e)) refl refl
+
+      here-j : has (hereIn t line) j ≡ true
+      here-j = turn .there
+
+      loose-j : has (looseIn line) j ≡ true
+      loose-j = here-is t given line w′ (here-now .0) at c due-c j here-j .0
+
+      on-j : ownOf t j ≡ c
+      on-j = here-is t given line w′ (here-now .0) at c due-c j here-j .1
+
+      pub left-j : has (line .left) (lowestOf (hereIn t line)) ≡ true
+      left-j = loose-is line j loose-j .1
+
+      pub acts-j : lowestOf (hereIn t line) < actsOf t
+      acts-j = at .sets .left j left-j
+
+      pub below-j : lowestOf (hereIn t line) < most
+      below-j = omega (arith, acts-j, given .laid .acts)
+
+      free-j : has (line .passed) j ≡ false
+      free-j =
+          by-bool (has (line .passed) j)
+          (λ y. true-not-false (meet-of (hereIn t line) (line .passed) j here-j y) free) (λ z. z)
+
+      module _ (w″ : List ℕ) (stored : w″ ≡ set w′ j (line .tick)) where
+        abbrev now : Line
+        now = aloneLine t line
+
+        leads-now : (d : Diagram) → Position t line w′ d → Leads t d now w″
+        leads-now d here =
+            alone-leads t given line w′ d here c due-c least-c j
+            (λ i y on. one-member turn single i (here-of t given line w′ d here c due-c i y on)) free-j w″ stored
+
+        cell : (k : ℕ) → k ≢ j → getD w″ k 0 ≡ getD w′ k 0
+        cell k ne = ap (λ (x : List ℕ). getD x k 0) stored ∙ getD-set-other w′ j k (line .tick) 0 ne
+
+        cell-j : endAt w″ j ≡ line .tick
+        cell-j =
+            ap (λ (x : List ℕ). getD x j 0) stored
+            ∙ getD-set-same w′ j (line .tick) 0 (omega (arith, below-j, at .sets .timed .size))
+
+        left-less : (i : ℕ) → has (now .left) i ≡ true → has (line .left) i ≡ true
+        left-less i y =
+            and-left (has (line .left) i) (not (eqb i j)) (sym (has-without (line .left) j i left-j) ∙ y)
+
+        beside-now : Beside t line w′ w″
+        beside-now =
             record {
-              timed = m .beside .timed;
-              ends =
-                  λ i b n.
-                  m .beside .ends i b
-                  (by-bool (has (l .left) i) (λ y. true-not-false (h .fewer i y) n) (λ y. y))
-                  ∙ h .beside .ends i b n;
-              ready = λ i b y. m .beside .ready i b (h .more i y) ∙ h .beside .ready i b y;
-              free = λ q b. m .beside .free q b ∙ h .beside .free q b;
-            };
-        runs = λ present run. leads present (h .runs present run);
-        fewer = λ i y. h .fewer i (ap (λ (x : ℕ). has x i) (sym (m .left)) ∙ y);
-        more = λ i y. m .placed i (h .more i y);
-        crowded = h .crowded ∙ ap (crowd t) (sym (m .left));
-        first = m .first;
-        here = λ z. absurd (omega (arith, calm));
-        reached =
-            λ s base on.
-            let at = h .reached s base on in
-            record {
-              state = at .state;
-              base =
-                  subst (λ (x : ℕ). Base t x last w′ (at .state)) (sym (m .left))
-                  (base-same (m .beside .ends) (at .base));
-              on = m .at last (at .state) (at .base) (at .on);
-              alike = at .alike;
-              contested = λ z. absurd (omega (arith, calm));
-            };
-      }
-
-  -- ---- something ends on the line
-
-  module _ (busy : many ≢ 0) (ends : l .tick < k / packing → ⊥) {here : ℕ} (here-is : here ≡ hereIn t l k) where
-    module _ {s₀ : State} (base₀ : Base t (start .left) latest w₀ s₀) (on₀ : OnLine t start w₀ s₀) where
-      pub some-here : 0 < here
-      some-here =
-          let at = here-now base₀ on₀ in
-          omega (
-            arith,
-            here-is,
-            here-some fit (h .beside .timed .size) (at .base) (at .on) (h .first) (left-some base₀ on₀ busy) ends,
-          )
-
-      ends-here : l .tick ≡ k / packing
-      ends-here =
-          let at = here-now base₀ on₀ in
-          tick-is fit (h .beside .timed .size) (at .base) (at .on) (h .first) (left-some base₀ on₀ busy) ends
-
-      pub contested-here : 0 < afterLowest here → Advancing t start latest w₀ w l last many here k
-      contested-here two =
-          record {
-            beside = h .beside;
-            runs = h .runs;
-            fewer = h .fewer;
-            more = h .more;
-            crowded = h .crowded;
-            first = h .first;
-            here = λ z. (here-is, ends-here);
-            reached =
-                λ s base on.
-                let at = h .reached s base on in
-                let wide = h .beside .timed .size in
-                let some = left-some base on busy in
-                record {
-                  state = at .state;
-                  base = at .base;
-                  on = at .on;
-                  alike = at .alike;
-                  contested =
-                      λ z. (
-                        two,
-                        λ i b.
-                            ap (λ (x : ℕ). has x i) here-is
-                            ∙ choice-is fit wide (at .base) (at .on) (h .first) some ends i b,
-                        ends-here
-                            ∙ ap (λ (x : ℕ). x / packing)
-                            (sym (key-is fit wide (at .base) (at .on) (h .first) some ends)),
-                        omega (arith, here-is, here-low fit wide (at .base) (at .on) (h .first) some ends),
-                      );
-                };
-          }
-
-      module _ (none : afterLowest here ≡ 0) {i : ℕ} (least : i ≡ lowestOf here) where
-        none′ : afterLowest (hereIn t l k) ≡ 0
-        none′ = ap afterLowest (sym here-is) ∙ none
-
-        least′ : i ≡ lowestOf (hereIn t l k)
-        least′ = least ∙ ap lowestOf here-is
-
-        pub low-here : i < most
-        low-here =
-            let at = here-now base₀ on₀ in
-            low fit (h .beside .timed .size) (at .base) (at .on) (h .first) (left-some base₀ on₀ busy) ends none′ i
-            least′
-
-        pub member-here : has (l .left) i ≡ true
-        member-here =
-            let at = here-now base₀ on₀ in
-            member fit (h .beside .timed .size) (at .base) (at .on) (h .first) (left-some base₀ on₀ busy) ends none′ i
-            least′
-
-        pub many-some : {both : ℕ} → both ≡ bothIn t l k → (here ≡ both → ⊥)
-            → many ≡ suc (crowd t (l .left - 2 ^ i))
-        many-some both-is differ =
-            let at = here-now base₀ on₀ in
-            h .crowded
-            ∙ many-fewer fit (h .beside .timed .size) (at .base) (at .on) (h .first) (left-some base₀ on₀ busy) ends
-            none′ i least′ (λ e. differ (here-is ∙ e ∙ sym both-is))
-
-        pub many-kept : {both : ℕ} → both ≡ bothIn t l k → here ≡ both → many ≡ crowd t (l .left - 2 ^ i)
-        many-kept both-is alike =
-            let at = here-now base₀ on₀ in
-            h .crowded
-            ∙ many-same fit (h .beside .timed .size) (at .base) (at .on) (h .first) (left-some base₀ on₀ busy) ends
-            none′ i least′ (sym here-is ∙ alike ∙ both-is)
-
-        frozen-on : {last′ many′ k′ : ℕ}
-            → last′ ≡ max last (l .tick)
-            → many′ ≡ crowd t (l .left - 2 ^ i)
-            → k′ ≡ leastAt t (set w i (l .tick)) (bitAnd (l .placed) (l .left - 2 ^ i))
-            → rivals ≡ 0
-            → Advancing t start latest w₀ (set w i (l .tick))
-            (record { tick = l .tick; placed = l .placed; left = l .left - 2 ^ i; term = l .term }) last′ many′ rivals
-            k′
-        frozen-on last-is many-is first-is calm =
-            record {
-              beside =
-                  record {
-                    timed = timed-store t w i (l .tick) (line-low base₀ on₀ busy) (h .beside .timed);
-                    ends =
-                        λ j b n.
-                        getD-set-other w i j (l .tick) 0
-                        (λ e. true-not-false (h .fewer i member-here) (ap (has (start .left)) (sym e) ∙ n))
-                        ∙ h .beside .ends j b n;
-                    ready =
-                        λ j b y.
-                        getD-set-other w i (readyFrom + j) (l .tick) 0 (λ e. omega (arith, low-here))
-                        ∙ h .beside .ready j b y;
-                    free =
-                        λ q b.
-                        getD-set-other w i (freeFrom + q) (l .tick) 0 (λ e. omega (arith, low-here))
-                        ∙ h .beside .free q b;
-                  };
-              runs =
-                  λ present run.
-                  subst (λ (x : ℕ). Run t present (frozenLine l x) (set w x (l .tick))) (sym least′)
-                  (freezes (h .runs present run) (h .first) ends-here (omega (arith, here-is, some-here)) none′);
-              fewer = λ j y. h .fewer j (stays (l .left) i member-here j y);
-              more = h .more;
-              crowded = many-is;
-              first = first-is;
-              here = λ z. absurd (omega (arith, calm));
-              reached =
-                  λ s base on.
-                  let at = h .reached s base on in
-                  let wide = h .beside .timed .size in
-                  let some = left-some base on busy in
-                  record {
-                    state = freeze (problemIn t) (at .state) i;
-                    base =
-                        frozen-base fit wide (at .base) (at .on) (h .first) some ends none′ i least′ last-is;
-                    on = frozen-line fit wide (at .base) (at .on) (h .first) some ends none′ i least′;
-                    alike =
-                        at .alike
-                        ∙ leaves-below fit wide (at .base) (at .on) (h .first) some ends none′ i least′;
-                    contested = λ z. absurd (omega (arith, calm));
-                  };
+              timed = leads-now (here-now .0) at .position .sets .timed;
+              ends = λ i b z. cell i (λ e. true-not-false left-j (ap (has (line .left)) (sym e) ∙ z));
+              ready = λ i b y. cell (32 + i) (λ e. omega (arith, e, below-j));
+              free = λ k b. cell (64 + k) (λ e. omega (arith, e, below-j));
             }
 
-        pub frozen-here : {w′ : List ℕ} {r : Line} {last′ many′ unfrozen k′ : ℕ}
-            → (r .tick ≡ l .tick) × (r .placed ≡ l .placed) × (r .left ≡ l .left - 2 ^ i) × (r .term ≡ l .term)
-            × (w′ ≡ set w i (l .tick))
-            → last′ ≡ max last (r .tick)
-            → many′ ≡ crowd t (l .left - 2 ^ i)
-            → k′ ≡ leastAt t w′ unfrozen
-            → unfrozen ≡ unfrozenIn r
-            → rivals ≡ 0
-            → Advancing t start latest w₀ w′ r last′ many′ rivals k′
-        frozen-here {w′} {r} {last′} {many′} {k′ = k′} (tick, placed, left, term, wrote) last-is many-is first-is of-is
-            calm =
-            let same : r ≡ record { tick = l .tick; placed = l .placed; left = l .left - 2 ^ i; term = l .term } =
-            line-is tick placed left term in
-            subst₂ (λ (x : List ℕ) (y : Line). Advancing t start latest w₀ x y last′ many′ rivals k′)
-            (sym wrote) (sym same)
-            (frozen-on (last-is ∙ ap (max last) tick) many-is
-            (first-is ∙ ap (leastAt t w′) of-is
-            ∙ ap₂ (λ (x : List ℕ) (y : Line). leastAt t x (unfrozenIn y)) wrote same)
-            calm)
+        frozen-now : (i : ℕ) → i ≢ j → has (frozenIn now) i ≡ has (frozenIn line) i
+        frozen-now i ne =
+            has-minus (line .placed) (now .left) i
+            ∙ ap (λ (x : Bool). has (line .placed) i && not x)
+            (has-without (line .left) j i left-j ∙ ap (λ (x : Bool). has (line .left) i && not x) (ne-eqb i j ne)
+            ∙ and-true (has (line .left) i))
+            ∙ sym (has-minus (line .placed) (line .left) i)
 
-        pub fewer-here : {left′ : ℕ} → left′ ≡ l .left - 2 ^ i → size left′ most < size (l .left) most
-        fewer-here e =
-            omega (arith, size-without most (l .left) i low-here member-here, ap (λ (x : ℕ). size x most) e)
+        frozen-j : has (frozenIn now) j ≡ true
+        frozen-j =
+            frozen-of now j (loose-is line j loose-j .0)
+            (has-without (line .left) j j left-j
+            ∙ ap (λ (x : Bool). has (line .left) j && not x) (eq-eqb j j refl)
+            ∙ and-false (has (line .left) j))
 
-  pub advanced : {r : Stop} → r .line ≡ l → r .latest ≡ last → r .many ≡ many → r .rivals ≡ rivals
-      → (rivals ≡ 0 → many ≡ 0) → Advances t start latest w₀ w r
-  advanced {r} e₁ e₂ e₃ e₄ settled =
-      subst₂
-      (λ (a : Line) (b : ℕ).
-      Advances t start latest w₀ w (record { line = a; latest = b; many = r .many; rivals = r .rivals }))
-      (sym e₁) (sym e₂)
-      (subst₂
-      (λ (a b : ℕ). Advances t start latest w₀ w (record { line = l; latest = last; many = a; rivals = b }))
-      (sym e₃) (sym e₄)
-      (record {
-        beside = h .beside;
-        runs = h .runs;
-        fewer = h .fewer;
-        more = h .more;
-        many = h .crowded;
-        settled = settled;
-        here =
-            subst (λ (x : ℕ). 0 < rivals → (rivals ≡ hereIn t l x) × (l .tick ≡ x / packing)) (h .first) (h .here);
-        at =
-            λ s base on.
-            let at = h .reached s base on in
-            (at .state, at .base, at .on, at .alike, at .contested);
-      }))
+        latest-now : latestOf w″ (frozenIn now) ≡ max (latestOf w′ (frozenIn line)) (line .tick)
+        latest-now =
+            le-antisymm
+            (max-least most (λ i. cond (has (frozenIn now) i) (endAt w″ i) 0)
+            (max (latestOf w′ (frozenIn line)) (line .tick))
+            (λ i b.
+            by-cases (ℕ-discrete i j)
+            (λ e. omega (arith, cond-le (has (frozenIn now) i) (endAt w″ i), ap (endAt w″) e, cell-j))
+            (λ ne.
+            by-bool (has (frozenIn line) i)
+            (λ y.
+            omega (
+              arith,
+              cond-true (endAt w″ i) 0 (frozen-now i ne ∙ y),
+              cell i ne,
+              cond-true (endAt w′ i) 0 y,
+              max-term most (λ k. cond (has (frozenIn line) k) (endAt w′ k) 0) i b,
+            ))
+            (λ z. omega (arith, cond-false (endAt w″ i) 0 (frozen-now i ne ∙ z))))))
+            (max-le-both
+            (max-least most (λ i. cond (has (frozenIn line) i) (endAt w′ i) 0) (latestOf w″ (frozenIn now))
+            (λ i b.
+            by-bool (has (frozenIn line) i)
+            (λ y.
+            let ne : i ≢ j = λ e. true-not-false left-j (ap (has (line .left)) (sym e) ∙ frozen-is line i y .1) in
+            omega (
+              arith,
+              cond-true (endAt w′ i) 0 y,
+              cell i ne,
+              cond-true (endAt w″ i) 0 (frozen-now i ne ∙ y),
+              max-term most (λ k. cond (has (frozenIn now) k) (endAt w″ k) 0) i b,
+            ))
+            (λ z. omega (arith, cond-false (endAt w′ i) 0 z))))
+            (omega (
+              arith,
+              cell-j,
+              cond-true (endAt w″ j) 0 frozen-j,
+              max-term most (λ k. cond (has (frozenIn now) k) (endAt w″ k) 0) j below-j,
+            )))
+
+        both-is : bothIn t line ≡ bitAnd (componentAt t j) (line .left)
+        both-is =
+            ap (λ (x : ℕ). bitAnd x (line .left))
+            (component-alike t (given .laid) c j (acts-c t given line w′ (here-now .0) at c due-c) acts-j
+            (own-c t given line w′ (here-now .0) at c due-c ∙ sym on-j))
+
+        acts-left : Acts t (line .left)
+        acts-left = record { low = at .sets .left-low; below = at .sets .left }
+
+        pub fewer-fits : (x : ℕ) → Fewer t j (bothIn t line) x → x ≤ many
+        fewer-fits x f =
+            omega (arith, so-far .many-is, f .fewer (line .left) acts-left left-j both-is)
+
+        pub advance-frozen : (x many′ last′ : ℕ) → Fewer t j (bothIn t line) x → many′ ≡ many - x
+            → last′ ≡ max last (line .tick)
+            → Advancing t l w w″ (aloneLine t line) last′ many′ rivals
+        advance-frozen x many′ last′ f fewer-is last-is =
+            record {
+              beside = beside-on t l line w w′ w″ (so-far .fewer) (so-far .more) (so-far .beside) beside-now;
+              fewer = λ i y. so-far .fewer i (left-less i y);
+              more = so-far .more;
+              many-is =
+                  omega (arith, fewer-is, so-far .many-is, f .fewer (line .left) acts-left left-j both-is);
+              last-is = last-is ∙ ap (λ (y : ℕ). max y (line .tick)) (so-far .last-is) ∙ sym latest-now;
+              here = λ k. absurd (omega (arith, k, none));
+              several = λ k. absurd (omega (arith, k, none));
+              leads = λ d start. leads-on t d line now w′ w″ (so-far .leads d start) leads-now;
+              some = so-far .some;
+            }
+
+        running-less : (i : ℕ) → i < most → isRunningOn w″ now i ≡ true → isRunningOn w′ line i ≡ true
+        running-less i b y =
+            let term : has (line .term) i ≡ true =
+            and-left (has (line .term) i) (not (has (runningIn now) i && leb (endAt w″ i) (line .tick))) y in
+            by-cases (ℕ-discrete i j)
+            (λ e.
+            both term
+            (ap (λ (x : Bool). not (x && leb (endAt w′ i) (line .tick)))
+            (has-minus (line .term) (line .left) i
+            ∙ ap (λ (x : Bool). has (line .term) i && not x) (ap (has (line .left)) e ∙ left-j)
+            ∙ and-false (has (line .term) i))))
+            (λ ne.
+            both term
+            (ap₂ (λ (a : Bool) (e : ℕ). not (a && leb e (line .tick)))
+            (has-minus (line .term) (line .left) i
+            ∙ ap (λ (x : Bool). has (line .term) i && not x)
+            (sym
+            (has-without (line .left) j i left-j ∙ ap (λ (x : Bool). has (line .left) i && not x) (ne-eqb i j ne)
+            ∙ and-true (has (line .left) i)))
+            ∙ sym (has-minus (line .term) (now .left) i))
+            (sym (cell i ne))
+            ∙ and-right (has (line .term) i) (not (has (runningIn now) i && leb (endAt w″ i) (line .tick))) y))
+
+        pub less-frozen : toDo w″ (aloneLine t line) rivals < toDo w′ line rivals
+        unfolding runningOn
+        less-frozen =
+            omega (
+              arith,
+              size-without most (line .left) j below-j left-j,
+              sum-le most (λ i. cond (isRunningOn w″ now i) 1 0) (λ i. cond (isRunningOn w′ line i) 1 0)
+                  (λ i b. cond-mono (isRunningOn w″ now i) (isRunningOn w′ line i) 1 (running-less i b)),
+              if-most (now .due),
+            )

@@ -1,3 +1,3 @@
 -- What the contracts say.
-pub mod AtLine
-pub mod Run
+pub mod Position
+pub mod Advance

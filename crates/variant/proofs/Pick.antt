@@ -13,8 +13,8 @@ use lib.Dec.{ltb}
 use lib.ListN.{length, getD, length-map, List·getD-append, List·getD-map}
 use lib.Seq.{getD-append-add}
 use Rattle.term.specs.Term.{Term, Forest, act, seq, pll, xor, nil, cons}
-use Rattle.term.specs.Variants.{variants, combinations, alternatives, paired, variantCount}
-use Rattle.term.proofs.Counting.{variantCount-count, length-combinations}
+use Rattle.term.specs.Variants.{variants, combinations, alternatives, paired}
+use Rattle.term.proofs.Counting.{length-variants, length-combinations}
 use Rattle.term.specs.Model.{count, product, total}
 use Rattle.variant.specs.Project.{variantAt}
 use Rattle.variant.specs.Pick.{pick, pickEach, pickOne}
@@ -70,10 +70,6 @@ paired-at (t ∷ ts) fs v h = go (paired-at ts fs (v - length fs)) (decLt v (len
         ∙ below (omega (arith, suc-mul (length ts) n))
         ∙ ap₂ (pairAt (t ∷ ts) fs) (sym (div-eq-sub-div pos (omega arith) ∙ add-one ((v - n) / n)))
         (sym (mod-eq-sub-mod (omega arith)))
-
-length-variants : (t : Term) → length (variants t) ≡ count t
-unfolding variantCount
-length-variants t = variantCount-count t
 
 -- Of each child and of one child, by the counts.
 each-at : (t : Term) (f : Forest) (v : ℕ) → v < count t * product f

@@ -1,12 +1,11 @@
 -- A variant of an accepted plan, written out, is an accepted plan again: its own only variant, with the same project,
 -- so with the same schedules, and it writes the same bytes.
 use Prim.Native.Nat.{ℕ, zero, suc, _≤_, _<_}
-use mathlib.Core.Bool.{Bool, true, false, cond}
+use mathlib.Core.Bool.{Bool, true, false}
 use mathlib.Core.List.{List, [], _∷_}
 use mathlib.Core.Option.{some}
 use mathlib.Core.Path.{_≡_, sym, ap, _∙_, subst}
 use native.Mathlib.Omega.{arith}
-use lib.Dec.{eqb}
 use lib.ListN.{length, getD}
 use Rattle.plan.specs.Limits.{mostNodes}
 use Rattle.plan.specs.Plan.{Plan, isNode, isPlan}
@@ -21,7 +20,7 @@ use Rattle.term.specs.Valid.{HasVariant}
 use Rattle.term.specs.Model.{count}
 use Rattle.term.proofs.Counting.{variantCount-count}
 use Rattle.term.proofs.Reading.{termOf-nodes, nodes-termOf, plan-full}
-use Rattle.variant.specs.Project.{activityAt, variantAt, projectOf}
+use Rattle.variant.specs.Project.{activityAt, unitsAt, variantAt, projectOf}
 use Rattle.variant.specs.Written.{dissolved, variantPlan, written}
 use Rattle.variant.proofs.Members.{or-none}
 use Rattle.variant.specs.Pick.{pick}
@@ -43,9 +42,9 @@ same-project p w =
       duration = λ i. activityAt p i .duration;
       precedes = λ i j. dissolved-precedes w i j k;
       gap = λ i j. 0;
-      resources = p .resources;
-      capacity = λ r. 1;
-      units = λ i r. cond (eqb (activityAt p i .resource) r) 1 0;
+      resources = length (p .capacities);
+      capacity = λ r. getD (p .capacities) r 0;
+      units = unitsAt p;
       free = λ i. true;
       floor = 0;
       begun = λ i. 0;
@@ -54,7 +53,13 @@ same-project p w =
 pub variantPlan-again : (p : Plan) (w : Term) → variantPlan (variantPlan p w) (dissolved w) ≡ variantPlan p w
 unfolding variantPlan
 variantPlan-again p w =
-    λ k. record { resources = p .resources; activities = p .activities; nodes = nodes (dissolved-again w k) }
+    λ k.
+    record {
+      edition = p .edition;
+      capacities = p .capacities;
+      activities = p .activities;
+      nodes = nodes (dissolved-again w k);
+    }
 
 pub written-again : (p : Plan) (w : Term) → written (variantPlan p w) (dissolved w) ≡ written p w
 unfolding written
@@ -122,9 +127,12 @@ module _ (p : Plan) (t : Term) (v : ℕ) (c : HasVariant p t v) where
       let below : (i : ℕ) → member i (activities u) ≡ true → i < length (p .activities) =
       λ i m. variant-below i (ap (member i) (sym (dissolved-activities w)) ∙ m) in
       sound-plan (variantPlan p w) (record {
+        edition = sound .edition;
         resources = sound .resources;
+        capacities = sound .capacities;
         acts = sound .acts;
         activities = sound .activities;
+        within = sound .within;
         nodeCount = facts-between 1 mostNodes (length (nodes u)) (nodes-some u) few-nodes;
         nodes = nodes-fit u (length (p .activities)) (dissolved-full w (variant-full t v (c .below) full-term)) below
             few-nodes;

@@ -1,4 +1,4 @@
--- One variant of a plan: its precedence, its project, its sessions, its tables, and how it is written out.
+-- One variant of a plan: its precedence, its project, its sessions, its order in tables, and how it is written out.
 pub mod Precedence
 pub mod Project
 pub mod Timetable

@@ -1,8 +1,9 @@
--- The project of a variant in the edition in force: one unit of each resource, of which an activity holds its own; no
--- gaps; every activity free from tick 0 on.
+-- The project of a variant: from the second edition on, the plan says how many units each resource has and how many of
+-- them each activity holds; in the first a resource has one unit, and an activity holds that of its own resource alone.
+-- There are no gaps in either, and every activity is free from tick 0 on.
 use Prim.Native.Nat.{ℕ}
-use mathlib.Core.Bool.{true, cond}
-use lib.Dec.{eqb}
+use mathlib.Core.Bool.{true}
+use mathlib.Core.List.{[]}
 use lib.ListN.{length, getD}
 use Rattle.plan.specs.Plan.{Plan, Activity}
 use Rattle.term.specs.Term.{Term, act}
@@ -10,8 +11,15 @@ use Rattle.term.specs.Variants.{variants, activities, member}
 use Rattle.schedule.specs.Project.{Project}
 use Rattle.variant.specs.Precedence.{precedes}
 
+abbrev pub noActivity : Activity
+noActivity = record { duration = 0; units = [] }
+
 abbrev pub activityAt : Plan → ℕ → Activity
-activityAt p i = getD (p .activities) i (record { resource = 0; duration = 0 })
+activityAt p i = getD (p .activities) i noActivity
+
+-- The units that activity i holds of resource r.
+abbrev pub unitsAt : Plan → ℕ → ℕ → ℕ
+unitsAt p i r = getD (activityAt p i .units) r 0
 
 -- Variant v of a term.
 abbrev pub variantAt : Term → ℕ → Term
@@ -25,9 +33,9 @@ projectOf p v =
       duration = λ i. activityAt p i .duration;
       precedes = precedes v;
       gap = λ i j. 0;
-      resources = p .resources;
-      capacity = λ r. 1;
-      units = λ i r. cond (eqb (activityAt p i .resource) r) 1 0;
+      resources = length (p .capacities);
+      capacity = λ r. getD (p .capacities) r 0;
+      units = unitsAt p;
       free = λ i. true;
       floor = 0;
       begun = λ i. 0;

@@ -1,17 +1,19 @@
 -- Sessions in the words of the paper, with no tests. p is a plan and w the chosen term of a variant.
 use Prim.Native.Nat.{ℕ, _+_, _≤_, _<_}
-use mathlib.Core.Bool.{true, false}
+use mathlib.Core.Bool.{Bool, true, false, cond, _&&_}
 use mathlib.Core.List.{List}
 use mathlib.Core.Logic.{_≢_, _↔_, _⊎_}
 use mathlib.Core.Path.{_≡_}
-use lib.ListN.{length}
-use Rattle.plan.specs.Plan.{Plan}
+use lib.Dec.{leb, ltb}
+use lib.ListN.{length, getD}
+use Rattle.plan.specs.Plan.{Plan, ownResource}
 use Rattle.term.specs.Term.{Term}
 use Rattle.term.specs.Variants.{activities, member}
+use Rattle.base.specs.Below.{sumBelow}
 use Rattle.schedule.specs.Schedule.{Starts, moved}
 use Rattle.schedule.specs.Sessions.{startsOf}
 use Rattle.variant.specs.Precedence.{precedes}
-use Rattle.variant.specs.Project.{activityAt}
+use Rattle.variant.specs.Project.{activityAt, unitsAt}
 use Rattle.timetable.specs.Mark.{mark, places}
 
 -- Activity i is one of the variant's.
@@ -22,11 +24,32 @@ Present w i = member i (activities w) ≡ true
 abbrev pub endIn : Plan → Starts → ℕ → ℕ
 endIn p S i = S i + activityAt p i .duration
 
--- Each activity starts no earlier than the end of all that precede it, and two on one resource do not overlap.
+-- The variant has activity i, and it runs on tick t.
+abbrev pub isRunning : Plan → Term → Starts → ℕ → ℕ → Bool
+isRunning p w S t i = member i (activities w) && leb (S i) t && ltb t (endIn p S i)
+
+-- The units of resource r that are held on tick t: those of the activities that run.
+unfoldable pub held : Plan → Term → Starts → ℕ → ℕ → ℕ
+held p w S t r = sumBelow (length (p .activities)) λ i. cond (isRunning p w S t i) (unitsAt p i r) 0
+
+-- Each activity starts no earlier than the end of all that precede it.
+abbrev pub InOrder : Plan → Term → Starts → Type 0
+InOrder p w S = (i j : ℕ) → Present w i → Present w j → precedes w i j ≡ true → endIn p S i ≤ S j
+
+-- Besides, on every tick the units that are held of a resource are within its capacity.
 pub record Keeps (p : Plan) (w : Term) (S : Starts) : Type 0 where
-  pub after : (i j : ℕ) → Present w i → Present w j → precedes w i j ≡ true → endIn p S i ≤ S j
+  pub after : InOrder p w S
+  pub within : (t r : ℕ) → r < length (p .capacities) → held p w S t r ≤ getD (p .capacities) r 0
+
+-- The same for a plan of the first edition, where each activity has a resource of its own: two on one resource do not
+-- overlap.
+abbrev pub resourceOf : Plan → ℕ → ℕ
+resourceOf p i = ownResource (activityAt p i .units)
+
+pub record KeepsApart (p : Plan) (w : Term) (S : Starts) : Type 0 where
+  pub after : InOrder p w S
   pub apart :
-      (i j : ℕ) → Present w i → Present w j → i ≢ j → activityAt p i .resource ≡ activityAt p j .resource
+      (i j : ℕ) → Present w i → Present w j → i ≢ j → resourceOf p i ≡ resourceOf p j
       → (endIn p S i ≤ S j) ⊎ (endIn p S j ≤ S i)
 
 -- Of the first n activities, exactly the absent ones have the mark.

@@ -33,9 +33,15 @@ unfoldable mutual
   dissolvedIn put nil = nil
   dissolvedIn put (cons t f) = put (dissolved t) (dissolvedIn put f)
 
--- The same resources and activities, and the chosen term.
+-- The same edition, resources and activities, and the chosen term.
 unfoldable pub variantPlan : Plan → Term → Plan
-variantPlan p v = record { resources = p .resources; activities = p .activities; nodes = nodes (dissolved v) }
+variantPlan p v =
+    record {
+      edition = p .edition;
+      capacities = p .capacities;
+      activities = p .activities;
+      nodes = nodes (dissolved v);
+    }
 
 unfoldable pub written : Plan → Term → List ℕ
 written p v = text (variantPlan p v)

@@ -59,7 +59,16 @@ module _ (s : List ℕ) (p : Plan) (t : Term) (v : ℕ) (e : judge s ≡ accepts
         few = omega (arith, variant-count p t v chosen);
       })
 
-  -- that plan has one variant,
+  -- which has the edition and the capacities of p;
+  written-edition : planBack p t v .edition ≡ p .edition
+  unfolding variantPlan
+  written-edition = refl
+
+  written-capacities : planBack p t v .capacities ≡ p .capacities
+  unfolding variantPlan
+  written-capacities = refl
+
+  -- it has one variant,
   pub written-count : variantCount (termBack t v) ≡ 1
   written-count = variant-count p t v chosen
 
@@ -129,6 +138,8 @@ module _ (s : List ℕ) (v : ℕ) (area : List ℕ) (n : ℕ) (after : List ℕ)
         plan-back = planBack p t v;
         term-back = termBack t v;
         accepted-back = written-accepted s p t v e l;
+        same-edition = written-edition s p t v e l;
+        same-capacities = written-capacities s p t v e l;
         one-variant = written-count s p t v e l;
         same-activities = written-activities s p t v e l;
         same-precedence = written-precedes s p t v e l;

@@ -34,10 +34,12 @@ outcome answer area = record { answer = answer; area = area }
 pub nodes-picked :
     (c : Campaign) (t : Term) (v : ℕ) → HoldsVariant c t v → (r : Picked) → Picks t v r
     → HoldsVariantPlan (c .tables) t v (record {
+      edition = c .tables .edition;
       resources = c .tables .resources;
+      capacity = c .tables .capacity;
       acts = c .tables .acts;
-      resource = c .tables .resource;
       duration = c .tables .duration;
+      units = c .tables .units;
       nodes = r .nodes;
       letter = r .letter;
       number = r .number;
@@ -45,12 +47,17 @@ pub nodes-picked :
 unfolding variantPlan
 nodes-picked c t v h r e =
     record {
+      resources = h .plan .ranged .resources;
       acts = h .plan .ranged .acts;
       nodes = e .fits;
       plan =
           λ k.
-          record
-          { resources = c .tables .resources; activities = planOf (c .tables) .activities; nodes = e .writes k };
+          record {
+            edition = c .tables .edition;
+            capacities = planOf (c .tables) .capacities;
+            activities = planOf (c .tables) .activities;
+            nodes = e .writes k;
+          };
     }
 
 -- Bytes that fit are placed, and bytes that do not are refused.

@@ -1,6 +1,6 @@
 -- A variant written out reads back as that variant: bytes that WRITE wrote as variant v of the file s are an accepted
--- file with one variant, which has the same activities, the same precedence and the same schedules, and is written
--- out as the same bytes.
+-- file of the same edition and the same resources with one variant, which has the same activities, the same precedence
+-- and the same schedules, and is written out as the same bytes.
 use Prim.Native.Nat.{ℕ, _<_}
 use mathlib.Core.List.{List}
 use mathlib.Core.Path.{_≡_}
@@ -21,6 +21,8 @@ pub record RoundTrip (s : List ℕ) (v : ℕ) (bytes : List ℕ) : Type 0 where
   pub plan-back : Plan
   pub term-back : Term
   pub accepted-back : judge bytes ≡ accepts plan-back term-back
+  pub same-edition : plan-back .edition ≡ plan .edition
+  pub same-capacities : plan-back .capacities ≡ plan .capacities
   pub one-variant : variantCount term-back ≡ 1
   pub same-activities : activities (variantAt term-back 0) ≡ activities (variantAt term v)
   pub same-precedence : (i j : ℕ) → precedes (variantAt term-back 0) i j ≡ precedes (variantAt term v) i j

@@ -5,7 +5,7 @@ use mathlib.Core.Path.{_≡_}
 use lib.Dec.{leb}
 use lib.ListN.{length}
 use Rattle.plan.specs.Outcome.{Outcome}
-use Rattle.plan.specs.Limits.{mostActs, mostNodes}
+use Rattle.plan.specs.Limits.{mostResources, mostActs, mostNodes}
 use Rattle.plan.specs.Plan.{planOf}
 use Rattle.plan.specs.declared.Tables.{Tables}
 use Rattle.term.specs.Term.{Term}
@@ -16,6 +16,7 @@ use Rattle.write.specs.Answer.{placedBy}
 
 -- The tables r hold variant v of the plan, written out.
 pub record HoldsVariantPlan (tables : Tables) (t : Term) (v : ℕ) (r : Tables) : Type 0 where
+  pub resources : r .resources ≤ mostResources
   pub acts : r .acts ≤ mostActs
   pub nodes : r .nodes ≤ mostNodes
   pub plan : planOf r ≡ variantPlan (planOf tables) (variantAt t v)

@@ -1,7 +1,7 @@
 // WRITE: a variant of a plan, written out as a plan file.
 ghost use Prim.Native.Nat.{_≤_};
 ghost use mathlib.Core.Path.{_≡_};
-ghost use Rattle.plan.specs.Limits.{mostActs, mostNodes};
+ghost use Rattle.plan.specs.Limits.{mostResources, mostActs, mostNodes};
 ghost use Rattle.plan.specs.Plan.{planOf};
 ghost use Rattle.format.specs.Text.{text};
 ghost use Rattle.term.specs.Term.{Term};
@@ -19,7 +19,8 @@ pub enum WriteAnswer {
     Refused(Refusal),
 }
 
-// The tables of variant v written out: the same resources and activities, and the variant's nodes.
+// The tables of variant v written out: the same edition, resources and activities, and the variant's
+// nodes.
 fn variant_of(campaign: Campaign, v: u32) -> Tables
     requires { ⌜ ((t : Term) × HoldsVariant campaign t v) ⌝ }
     ensures { λ r. ⌜ ((t : Term) → HoldsVariant campaign t v → HoldsVariantPlan (campaign .tables) t v r) ⌝ }
@@ -29,15 +30,18 @@ fn variant_of(campaign: Campaign, v: u32) -> Tables
     let letter = tables.letter;
     let number = tables.number;
     let picked = pick::pick(letter, number, tables.nodes, spans, v);
-    let resource = tables.resource;
+    let capacity = tables.capacity;
     let duration = tables.duration;
+    let units = tables.units;
     let letter = picked.letter;
     let number = picked.number;
     Tables {
+        edition: tables.edition,
         resources: tables.resources,
+        capacity,
         acts: tables.acts,
-        resource,
         duration,
+        units,
         nodes: picked.nodes,
         letter,
         number,
@@ -46,7 +50,7 @@ fn variant_of(campaign: Campaign, v: u32) -> Tables
 
 // The text of a plan at the front of the area, if it has room there.
 fn write_plan(tables: Tables, area: &mut [u8]) -> WriteAnswer
-    requires { ⌜ (tables .acts ≤ mostActs) × (tables .nodes ≤ mostNodes) ⌝ }
+    requires { ⌜ (tables .resources ≤ mostResources) × (tables .acts ≤ mostActs) × (tables .nodes ≤ mostNodes) ⌝ }
     ensures { λ r.
         ⌜ record { answer = r; area = now (area .exit) }
         ≡ placedIn (now (area .entry)) (text (planOf tables)) ⌝ }

@@ -44,8 +44,8 @@ pub trait Planner {
     /// The number of active schedules of all variants, each counted once.
     fn count(&self, file: &[u8], cap: u32) -> Answer<u64>;
 
-    /// Writes the rows at the front of the area, a variant and then a start for each activity; answers their number. They
-    /// stand by variant, then by the start of activity 0, then of activity 1 and so on through the present ones.
+    /// Writes the rows at the front of the area, a variant and then a start for each activity; answers their number.
+    /// They stand by variant, then by the start of activity 0, then of activity 1 and so on through the present ones.
     fn list(&self, file: &[u8], cap: u32, area: &mut [u32]) -> Answer<u64>;
 
     /// Writes the schedule of the first shortest row into `starts`.

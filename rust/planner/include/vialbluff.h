@@ -5,10 +5,11 @@
  *   refusal:  out[0] = its number, out[1] = its figure, the rest 0
  *
  *   number  figure              condition
- *   1       0                   length 0 or over 983
+ *   1       0                   length 0 or over 2175
  *   2       line, from 1        line absent, ill formed, or bytes past the last line
  *   3       line                a value out of range
  *   10      line                a group of one child
+ *   11      line                more units of a device than it has
  *   4       0                   the nodes are not one whole term
  *   5       0                   some variant has an activity twice
  *   6       0                   more than 4096 variants
@@ -57,8 +58,8 @@ void vialbluff_count(const uint8_t *file, size_t file_len, uint32_t cap, uint64_
 void vialbluff_list(const uint8_t *file, size_t file_len, uint32_t cap,
                     uint32_t *area, size_t area_len, uint64_t out[4]);
 
-/* Writes the schedule of the first shortest of LIST's rows into `starts`; out[1] its variant, out[2] its makespan, out[3]
- * the number of rows. */
+/* Writes the schedule of the first shortest of LIST's rows into `starts`; out[1] its variant, out[2] its makespan,
+ * out[3] the number of rows. */
 void vialbluff_best(const uint8_t *file, size_t file_len, uint32_t cap,
                     uint32_t starts[VIALBLUFF_PLACES], uint64_t out[4]);
 

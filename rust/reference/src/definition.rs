@@ -17,11 +17,19 @@ fn extend(project: &Project, horizon: u64, starts: &mut Schedule, found: &mut Ve
     }
     for start in 0..horizon {
         starts.push(start);
-        if (0..next).all(|i| project.agree(starts, i, next)) {
+        if may_stand(project, starts) {
             extend(project, horizon, starts, found);
         }
         starts.pop();
     }
+}
+
+/// May the last of some starts stand beside those before it, on every tick of it?
+fn may_stand(project: &Project, starts: &[u64]) -> bool {
+    let last = starts.len() - 1;
+    let mut ticks = starts[last]..project.end(starts, last);
+    (0..last).all(|i| project.in_order(starts, i, last) && project.in_order(starts, last, i))
+        && ticks.all(|tick| project.within_capacity(starts, starts.len(), tick))
 }
 
 /// Every active schedule: each start of one is below the sum of the durations.

@@ -2,8 +2,9 @@
 //!
 //! Every schedule made so is active: what is added later only takes room away. An active schedule is made by adding its
 //! activities by rising start (and number, where starts are equal): if one fitted earlier among those before it, it
-//! would fit there in the whole schedule too, since the others on its resource start at its end or later. So taking only
-//! those steps in which start and number rise gives each active schedule exactly once.
+//! would fit there in the whole schedule too, since before its start nothing else runs, and from its start on it has
+//! room beside the others as it stands. So taking only those steps in which start and number rise gives each active
+//! schedule exactly once.
 
 use crate::project::{Project, Schedule};
 use crate::random::Random;
@@ -63,10 +64,10 @@ impl Search<'_> {
         true
     }
 
-    /// j fits too early. Can another activity on its resource, started at `from` or later, take that place?
+    /// j fits too early. Can another activity on a resource of it, started at `from` or later, take that place?
     fn can_be_held_up(&self, j: usize, start: u64, from: u64) -> bool {
         let project = self.project;
-        let rival = |i: usize| i != j && !self.placed[i] && project.resource[i] == project.resource[j];
+        let rival = |i: usize| i != j && !self.placed[i] && project.share(i, j);
         start + project.duration[j] > from && (0..project.size()).any(|i| rival(i) && !project.before[j][i])
     }
 }

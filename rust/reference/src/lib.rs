@@ -1,8 +1,8 @@
 //! An independent, plain implementation of the six calls, from the definitions alone.
 //!
-//! The active schedules are found in three ways that share nothing but the test of what is active:
-//! `definition` tries every start, `orders` tries every order on every resource, `insertion` adds
-//! activities by rising start. The tests hold them against each other.
+//! The active schedules are found in four ways: `definition` tries every start, `orders` every order on every resource
+//! of one unit, `sequences` every sequence of the activities, and `insertion` adds activities by rising start. The
+//! tests hold them against each other.
 
 pub mod definition;
 pub mod file;
@@ -11,10 +11,11 @@ pub mod orders;
 pub mod project;
 pub mod random;
 pub mod rows;
+pub mod sequences;
 pub mod term;
 
 use calls::{Answer, Best, Planner, Refusal, Size, Timetable, MARK, PLACES};
-use file::{Activity, Plan};
+use file::Plan;
 use project::Project;
 use rows::{rows, Rows};
 use term::Term;
@@ -34,14 +35,13 @@ impl Plan {
     }
 
     pub fn written(&self, number: u64) -> Answer<Vec<u8>> {
-        let chosen = self.variant(number)?.dissolved();
-        Ok(file::text(self.resources, &self.activities, &chosen))
+        Ok(self.text_of(&self.variant(number)?.dissolved()))
     }
 }
 
 /// Does the timetable have the mark exactly at the absent activities, and is it feasible?
-pub fn is_session(activities: &[Activity], chosen: &Term, starts: &Timetable) -> bool {
-    let project = Project::new(activities, chosen);
+pub fn is_session(plan: &Plan, chosen: &Term, starts: &Timetable) -> bool {
+    let project = Project::new(plan, chosen);
     let marked = (0..starts.len()).all(|i| (starts[i] == MARK) != project.numbers.contains(&i));
     let starts: Vec<u64> = project.numbers.iter().map(|&i| u64::from(starts[i])).collect();
     marked && project.is_feasible(&starts)
@@ -102,7 +102,7 @@ impl Planner for Reference {
     fn check(&self, file: &[u8], variant: u64, starts: &Timetable) -> Answer<bool> {
         let plan = file::parse(file)?;
         let chosen = plan.variant(variant)?;
-        Ok(is_session(&plan.activities, &chosen, starts))
+        Ok(is_session(&plan, &chosen, starts))
     }
 
     fn count(&self, file: &[u8], cap: u32) -> Answer<u64> {

@@ -1,5 +1,6 @@
-//! Active schedules by trying every order on every resource. A schedule in which no activity can slide is the earliest
-//! one of its orders, so the active schedules are those of these earliest ones that pass Definition 2's test.
+//! Active schedules of a project of one unit (`Project::is_one_unit`) by trying every order on every resource. A
+//! schedule in which no activity can slide is the earliest one of its orders, so the active schedules are those of
+//! these earliest ones that pass Definition 2's test.
 
 use crate::project::{Project, Schedule};
 use std::collections::HashSet;
@@ -24,8 +25,9 @@ fn orders(project: &Project, activities: &[usize]) -> Vec<Vec<usize>> {
 }
 
 fn by_resource(project: &Project) -> Vec<Vec<usize>> {
-    let on = |r: u64| (0..project.size()).filter(|&i| project.resource[i] == r).collect::<Vec<_>>();
-    (0..16).map(on).filter(|activities| !activities.is_empty()).collect()
+    assert!(project.is_one_unit());
+    let on = |r: usize| (0..project.size()).filter(|&i| project.units[i][r] == 1).collect::<Vec<_>>();
+    (0..project.capacities.len()).map(on).filter(|activities| !activities.is_empty()).collect()
 }
 
 /// The number of orders, or `most` if there are as many or more.

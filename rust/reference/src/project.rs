@@ -1,6 +1,6 @@
 //! The activities of one variant, and which schedules of them are feasible and active (document 000, Definition 2).
 
-use crate::file::Activity;
+use crate::file::Plan;
 use crate::term::{Kind, Term};
 use std::cmp::Ordering;
 
@@ -10,22 +10,27 @@ pub type Schedule = Vec<u64>;
 pub struct Project {
     /// The activities' numbers in the plan, rising.
     pub numbers: Vec<usize>,
-    pub resource: Vec<u64>,
     pub duration: Vec<u64>,
+    /// `units[i][r]`: how many units of resource r activity i holds.
+    pub units: Vec<Vec<u64>>,
+    /// The units of each resource.
+    pub capacities: Vec<u64>,
     /// `before[i][j]`: i precedes j.
     pub before: Vec<Vec<bool>>,
 }
 
 impl Project {
-    pub fn new(activities: &[Activity], chosen: &Term) -> Project {
+    /// The project of a variant of the plan, which is the term chosen.
+    pub fn new(plan: &Plan, chosen: &Term) -> Project {
         let mut leaves = chosen.leaves();
         leaves.sort_by_key(|leaf| leaf.activity);
         let numbers: Vec<usize> = leaves.iter().map(|leaf| leaf.activity).collect();
         let precedes = |i: usize, j: usize| i != j && leaves[i].parts(&leaves[j]) == (Kind::Seq, Ordering::Less);
         let size = numbers.len();
         Project {
-            resource: numbers.iter().map(|&i| activities[i].resource).collect(),
-            duration: numbers.iter().map(|&i| activities[i].duration).collect(),
+            duration: numbers.iter().map(|&i| plan.activities[i].duration).collect(),
+            units: numbers.iter().map(|&i| plan.activities[i].units.clone()).collect(),
+            capacities: plan.capacities.clone(),
             before: (0..size).map(|i| (0..size).map(|j| precedes(i, j)).collect()).collect(),
             numbers,
         }
@@ -43,16 +48,26 @@ impl Project {
         starts[i] + self.duration[i]
     }
 
-    /// May i and j stand as they do?
-    pub fn agree(&self, starts: &[u64], i: usize, j: usize) -> bool {
-        let (i_first, j_first) = (self.end(starts, i) <= starts[j], self.end(starts, j) <= starts[i]);
-        (i_first || !self.before[i][j])
-            && (j_first || !self.before[j][i])
-            && (i_first || j_first || self.resource[i] != self.resource[j])
+    fn runs(&self, starts: &[u64], i: usize, tick: u64) -> bool {
+        starts[i] <= tick && tick < self.end(starts, i)
     }
 
+    /// Do the first n activities, on the tick, hold no more units of each resource than it has?
+    pub fn within_capacity(&self, starts: &[u64], n: usize, tick: u64) -> bool {
+        let held = |r: usize| (0..n).filter(|&i| self.runs(starts, i, tick)).map(|i| self.units[i][r]).sum::<u64>();
+        (0..self.capacities.len()).all(|r| held(r) <= self.capacities[r])
+    }
+
+    pub fn in_order(&self, starts: &[u64], i: usize, j: usize) -> bool {
+        !self.before[i][j] || self.end(starts, i) <= starts[j]
+    }
+
+    /// Within capacity on every tick, if on those on which an activity starts: on no other are more units held than on
+    /// the one before.
     pub fn is_feasible(&self, starts: &[u64]) -> bool {
-        (0..self.size()).all(|j| (0..j).all(|i| self.agree(starts, i, j)))
+        let all = || 0..self.size();
+        all().all(|i| all().all(|j| self.in_order(starts, i, j)))
+            && starts.iter().all(|&tick| self.within_capacity(starts, self.size(), tick))
     }
 
     /// Definition 2, word by word: no start can be made smaller, the others unchanged.
@@ -65,22 +80,33 @@ impl Project {
         self.is_feasible(starts) && !(0..self.size()).any(|j| (0..starts[j]).any(|t| can_move(j, t)))
     }
 
-    /// The earliest start of j among the activities that are placed, the ends of its predecessors being the floor.
+    /// Do i and j use a common resource?
+    pub fn share(&self, i: usize, j: usize) -> bool {
+        self.units[i].iter().zip(&self.units[j]).any(|(a, b)| *a > 0 && *b > 0)
+    }
+
+    /// Is there room for j on the tick, beside those that are placed?
+    pub fn has_room(&self, starts: &[u64], placed: &[bool], j: usize, tick: u64) -> bool {
+        let runs = |&i: &usize| i != j && placed[i] && self.runs(starts, i, tick);
+        let held = |r: usize| (0..self.size()).filter(runs).map(|i| self.units[i][r]).sum::<u64>();
+        let fits = |r: usize| self.units[j][r] == 0 || held(r) + self.units[j][r] <= self.capacities[r];
+        (0..self.capacities.len()).all(fits)
+    }
+
+    /// The earliest start of j among the activities that are placed, the ends of its predecessors being the floor. It
+    /// is the floor or an end, since room comes with an end; and room goes with a start.
     pub fn earliest_fit(&self, starts: &[u64], placed: &[bool], j: usize) -> u64 {
         let others = || (0..self.size()).filter(|&i| placed[i] && i != j);
         let floor = others().filter(|&i| self.before[i][j]).map(|i| self.end(starts, i)).max().unwrap_or(0);
-        let mut start = floor;
-        loop {
-            let in_the_way = |&i: &usize| {
-                self.resource[i] == self.resource[j]
-                    && starts[i] < start + self.duration[j]
-                    && start < self.end(starts, i)
-            };
-            match others().filter(in_the_way).map(|i| self.end(starts, i)).max() {
-                None => return start,
-                Some(free) => start = free,
-            }
-        }
+        let fits = |start: &u64| {
+            let inside = |tick: &u64| *start < *tick && *tick < start + self.duration[j];
+            let ticks = others().map(|i| starts[i]).filter(inside).chain([*start]);
+            ticks.into_iter().all(|tick| self.has_room(starts, placed, j, tick))
+        };
+        let ends = others().map(|i| self.end(starts, i)).filter(|&end| end > floor);
+        let mut ticks: Vec<u64> = ends.chain([floor]).collect();
+        ticks.sort();
+        ticks.into_iter().find(fits).unwrap()
     }
 
     /// As `is_active`, for feasible starts, by the only ticks where an activity can first fit.
@@ -106,8 +132,15 @@ impl Project {
         chain.into_iter().max().unwrap()
     }
 
+    /// The largest load of a resource: duration times units of its activities, divided by its capacity and rounded up.
     pub fn largest_load(&self) -> u64 {
-        let load = |r: u64| (0..self.size()).filter(|&i| self.resource[i] == r).map(|i| self.duration[i]).sum();
-        self.resource.iter().map(|&r| load(r)).max().unwrap()
+        let work = |r: usize| (0..self.size()).map(|i| self.duration[i] * self.units[i][r]).sum::<u64>();
+        (0..self.capacities.len()).map(|r| work(r).div_ceil(self.capacities[r])).max().unwrap()
+    }
+
+    /// Has each resource one unit, and each activity one unit of one resource?
+    pub fn is_one_unit(&self) -> bool {
+        self.capacities.iter().all(|&capacity| capacity == 1)
+            && self.units.iter().all(|units| units.iter().sum::<u64>() == 1)
     }
 }

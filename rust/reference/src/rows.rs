@@ -33,7 +33,7 @@ pub fn rows(plan: &Plan, cap: u64, steps: u64) -> Rows {
     let (mut rows, mut active) = (vec![], vec![]);
     let mut seen = HashSet::new();
     for variant in 0..plan.term.variant_count() {
-        let project = Project::new(&plan.activities, &plan.term.variant(variant));
+        let project = Project::new(plan, &plan.term.variant(variant));
         let mut found = match active_schedules(&project, cap, &mut steps) {
             Found::All(found) => found,
             Found::More => return Rows::OverCap,
@@ -55,7 +55,7 @@ pub fn rows(plan: &Plan, cap: u64, steps: u64) -> Rows {
 fn exceeds(plan: &Plan, cap: u64) -> bool {
     let variants = plan.term.variant_count();
     let mut random = Random(cap);
-    let project = |number: u64| Project::new(&plan.activities, &plan.term.variant(number));
+    let project = |number: u64| Project::new(plan, &plan.term.variant(number));
     let projects: Vec<Project> = (0..variants.min(64)).map(|_| project(random.below(variants))).collect();
     let mut seen = HashSet::new();
     for _ in 0..2 * cap.min(10_000) + 100 {

@@ -20,18 +20,89 @@ fn with(part: &str, by: &str) -> Result<u64, Refusal> {
     of(&SMALL.replace(part, by))
 }
 
+const UNITS: &str = "plan=2/res=3/cap=1/cap=2/cap=15/acts=2/act=1,0,0,0/act=20000,1,2,15/nodes=3/node=s,2/node=a,0\
+    /node=a,1";
+
+/// `UNITS` with one part replaced.
+fn with_units(part: &str, by: &str) -> Result<u64, Refusal> {
+    assert!(UNITS.contains(part));
+    of(&UNITS.replace(part, by))
+}
+
+/// The longest file but for its head, and its length with it.
+fn longest(head: &str, activity: &str) -> String {
+    format!("{head}/acts=24{}/nodes=64/node=x,63{}", activity.repeat(24), "/node=a,23".repeat(63))
+}
+
 #[test]
 fn length() {
-    let longest = "plan=1/res=16/acts=24".to_string()
-        + &"/act=15,20000".repeat(24)
-        + "/nodes=64/node=x,63"
-        + &"/node=a,23".repeat(63);
-    assert_eq!(longest.len() + 1, 983);
-    assert_eq!(of(&longest), Ok(63));
-    assert_eq!(of(&(longest + "/")), Err(refusal(1, 0)));
+    let one = longest("plan=1/res=16", "/act=15,20000");
+    let head = "plan=2/res=16".to_string() + &"/cap=15".repeat(16);
+    let activity = "/act=20000".to_string() + &",15".repeat(16);
+    let two = longest(&head, &activity);
+    assert_eq!((one.len() + 1, two.len() + 1), (983, 2175));
+    assert_eq!((of(&one), of(&two)), (Ok(63), Ok(63)));
+    assert_eq!(of(&(two + "/")), Err(refusal(1, 0)));
     assert_eq!(read(b""), Err(refusal(1, 0)));
-    assert_eq!(read(&[0; 984]), Err(refusal(1, 0)));
-    assert_eq!(read(&[0; 983]), Err(refusal(2, 1)));
+    assert_eq!(read(&[0; 2176]), Err(refusal(1, 0)));
+    assert_eq!(read(&[0; 2175]), Err(refusal(2, 1)));
+    // a file of edition 1 is judged by its lines up to the same length
+    assert_eq!(of(&(one.clone() + "/")), Err(refusal(2, 93)));
+    assert_eq!(read((one.replace('/', "\n") + &"\n".repeat(1193)).as_bytes()), Err(refusal(2, 93)));
+    assert_eq!(read((one.replace('/', "\n") + &"\n".repeat(1194)).as_bytes()), Err(refusal(1, 0)));
+    assert_eq!(of(&(one.replace(",20000", ",20001") + "/")), Err(refusal(3, 4)));
+}
+
+#[test]
+fn units() {
+    assert_eq!(of(UNITS), Ok(1));
+    for (part, by, number, line) in [
+        // capacities
+        ("cap=1/", "cap=0/", 3, 3),
+        ("cap=2/", "cap=16/", 3, 4),
+        ("cap=15/", "cap=015/", 2, 5),
+        ("cap=15/", "cap=1,5/", 2, 5),
+        ("cap=15/", "", 2, 5),
+        ("cap=15/", "cap=15/cap=15/", 2, 6),
+        ("cap=15/", "Cap=15/", 2, 5),
+        ("cap=1/cap=2", "acts=2/cap=2", 2, 3),
+        // as many counts as devices
+        ("act=1,0,0,0", "act=1,0,0", 2, 7),
+        ("act=1,0,0,0", "act=1,0,0,0,0", 2, 7),
+        ("act=1,0,0,0", "act=1,0,0,", 2, 7),
+        ("act=1,0,0,0", "act=1,0,0,0,", 2, 7),
+        ("act=1,0,0,0", "act=1", 2, 7),
+        ("act=1,0,0,0", "act=1,0,,0", 2, 7),
+        ("act=1,0,0,0", "act=1,0,00,0", 2, 7),
+        ("act=1,0,0,0", "act=1,0,0,01", 2, 7),
+        ("act=1,0,0,0", "act=01,0,0,0", 2, 7),
+        ("act=1,0,0,0", "act=0,0,0,0", 3, 7),
+        ("act=20000,1,2,15", "act=20001,1,2,15", 3, 8),
+        ("act=20000,1,2,15", "act=20000,1,2,16", 3, 8),
+        ("act=20000,1,2,15", "act=20000,16,2,15", 3, 8),
+        ("act=20000,1,2,15", "act=20000,2,2,15", 11, 8),
+        ("act=20000,1,2,15", "act=20000,1,3,15", 11, 8),
+        ("act=20000,1,2,15", "act=20000,15,2,15", 11, 8),
+        // 2 before 3 before 11
+        ("act=20000,1,2,15", "act=20000,2,2,16", 3, 8),
+        ("act=20000,1,2,15", "act=0,2,2,15", 3, 8),
+        ("act=20000,1,2,15", "act=20000,2,16,015", 2, 8),
+        ("act=20000,1,2,15", "act=20000,2,2", 2, 8),
+        // the first line goes first
+        ("act=1,0,0,0/act=20000,1", "act=1,2,0,0/act=20000,16", 11, 7),
+        ("act=1,0,0,0/act=20000,1", "act=1,0,3,0/act=020000,1", 11, 7),
+        ("act=20000,1,2,15/nodes=3/node=s,2", "act=20000,2,2,15/nodes=3/node=s,1", 11, 8),
+        ("nodes=3/node=s,2", "nodes=3/node=s,1", 10, 10),
+        // editions
+        ("plan=2", "plan=1", 2, 3),
+        ("plan=2", "plan=3", 3, 1),
+        ("plan=2", "plan=0", 3, 1),
+        ("plan=2", "plan=22", 3, 1),
+    ] {
+        assert_eq!(with_units(part, by), Err(refusal(number, line)), "{by:?} for {part:?}");
+    }
+    assert_eq!(with_units("act=1,0,0,0", "act=1,1,2,15"), Ok(1));
+    assert_eq!(with("plan=1", "plan=2"), Err(refusal(2, 3)));
 }
 
 #[test]
@@ -76,7 +147,7 @@ fn form() {
 #[test]
 fn range() {
     for (part, by, line) in [
-        ("plan=1", "plan=2", 1),
+        ("plan=1", "plan=3", 1),
         ("plan=1", "plan=0", 1),
         ("res=2", "res=0", 2),
         ("res=2", "res=17", 2),

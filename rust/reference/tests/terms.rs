@@ -1,6 +1,6 @@
 //! Variants in their order, terms read from nodes, activities that stand twice, and written variants.
 
-use reference::file::{parse, text, whole_term, Activity};
+use reference::file::{parse, whole_term, Activity, Plan};
 use reference::random::Random;
 use reference::term::{Kind, Term};
 
@@ -68,18 +68,21 @@ fn nodes_read_back() {
     }
 }
 
-#[test]
-fn written_variants_read_back() {
+fn written_variants_read_back(edition: u64, capacities: Vec<u64>, activity: Activity) {
     let mut random = Random(4);
-    let activities = vec![Activity { resource: 2, duration: 20_000 }; 24];
     let mut seen = 0;
     for _ in 0..5000 {
-        let Ok(plan) = parse(&text(3, &activities, &term(&mut random, 3, 24))) else {
+        let (capacities, activities) = (capacities.clone(), vec![activity.clone(); 24]);
+        let drafted = Plan { edition, capacities, activities, term: term(&mut random, 3, 24) };
+        let Ok(plan) = parse(&drafted.text()) else {
             continue;
         };
+        assert_eq!(plan, drafted);
         for number in 0..plan.term.variant_count().min(20) {
             let written = plan.written(number).unwrap();
             let again = parse(&written).unwrap();
+            assert_eq!((again.edition, &again.capacities), (edition, &plan.capacities));
+            assert_eq!(again.activities, plan.activities);
             assert_eq!(again.term.variant_count(), 1);
             assert_eq!(again.written(0).unwrap(), written);
             assert!(!again.term.nodes().windows(2).any(|pair| pair[0].0 == pair[1].0 && pair[0].0 != 'a'));
@@ -87,4 +90,14 @@ fn written_variants_read_back() {
         }
     }
     assert!(seen > 5000);
+}
+
+#[test]
+fn written_variants_of_edition_1() {
+    written_variants_read_back(1, vec![1; 3], Activity::on(2, 3, 20_000));
+}
+
+#[test]
+fn written_variants_of_edition_2() {
+    written_variants_read_back(2, vec![1, 15, 2], Activity { duration: 20_000, units: vec![0, 15, 1] });
 }

@@ -36,7 +36,11 @@ returns-2 c =
     let b = c .before .before .before .before .before in
     best-of (now (b .before .before .args .file)) _
     (b .judge .ensures .refused _ (c .before .before .verdict .given .1)) (b .before .before .args .cap) _
-    (λ i. record { answer = Refused (c .before .before .verdict .given .0 .0); timetable = record { starts = c .empty .ensures i } })
+    (λ i.
+    record {
+      answer = Refused (c .before .before .verdict .given .0 .0);
+      timetable = record { starts = c .empty .ensures i };
+    })
 
 pub best-spec : {M : Type 1} → statement M
 best-spec =

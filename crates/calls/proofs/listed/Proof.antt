@@ -2,13 +2,14 @@
 -- sorted.
 use Prim.Native.Nat.{_+_}
 use native.Mathlib.Omega.{arith}
-use mathlib.Core.Path.{ap, _∙_}
+use mathlib.Core.Path.{subst}
 use mathlib.Core.List.{[], _∷_}
 use borrow.Author.Needs.{needs}
 use denote.Ref.{now}
-use Rattle.tally.specs.Seen.{Kept, kept}
+use Rattle.term.specs.Variants.{variantCount}
+use Rattle.tally.specs.Seen.{kept}
 use Rattle.tally.specs.declared.Tally.{Tally}
-use Rattle.sweep.specs.Swept.{swept}
+use Rattle.sweep.specs.Swept.{Swept}
 use Rattle.calls.proofs.Answers.{lists-refused, lists-short, lists-rows}
 use Rattle.calls.proofs.Judged.{cells-fit}
 use Rattle.calls.proofs.listed.Statement.{statement}
@@ -73,10 +74,13 @@ returns-3 c =
     lists-rows (a .campaign) t holds (a .cap) 0 (0 ∷ []) (r .result) (r .ensures t holds) (now (a .area))
     (omega arith)
     (omega arith)
+    (sweep .sweep .result)
     (sweep .sweep .last .1 .1 .1 .0)
     (sort .sort-rows .last .0)
-    (ap (λ (k : Kept). k .area) (sweep .sweep .ensures t holds)
-    ∙ ap (λ (x : Tally). swept (a .campaign) t (a .cap) (kept x (now (a .area))) .area) (none .none .ensures))
+    (subst
+    (λ (x : Tally). Swept (a .campaign) t (a .cap) (variantCount t) (kept x (now (a .area)))
+    (kept (sweep .sweep .result) (sweep .sweep .last .1 .1 .1 .0)))
+    (none .none .ensures) (sweep .sweep .ensures t holds))
     (sort .sort-rows .ensures)
 
 pub listed-spec : {M : Type 1} → statement M

@@ -3,7 +3,6 @@ use native.Mathlib.Omega.{arith}
 use mathlib.Core.Path.{refl}
 use mathlib.Core.List.{[], _∷_}
 use borrow.Author.Needs.{needs}
-use Rattle.scan.specs.Model.{never}
 use Rattle.calls.proofs.Answers.{best-refused, best-found}
 use Rattle.calls.proofs.shortest.Statement.{statement}
 use Rattle.calls.proofs.shortest.Tie as tie
@@ -19,7 +18,7 @@ returns c =
     let a = c .before .before .before .before .args in
     let r = c .before .before .before .tallied in
     λ t holds.
-    best-refused (a .campaign) t holds (a .cap) never (0 ∷ []) (r .result) (r .ensures t holds) (omega arith) _ refl
+    best-refused (a .campaign) t holds (a .cap) _ (0 ∷ []) (r .result) (r .ensures t holds) (omega arith) _ refl
     (c .empty .ensures)
 
 returns-2 : tie.Need-returns-2
@@ -27,7 +26,8 @@ returns-2 c =
     let a = c .before .before .before .before .args in
     let r = c .before .before .before .tallied in
     λ t holds.
-    best-found (a .campaign) t holds (a .cap) never (0 ∷ []) (r .result) (r .ensures t holds) (omega arith) (omega arith) _ refl refl
+    best-found (a .campaign) t holds (a .cap) _ (0 ∷ []) (r .result) (r .ensures t holds) (omega arith) (omega arith)
+    _ refl refl
 
 pub shortest-spec : {M : Type 1} → statement M
 shortest-spec = tie.close (tie.spec tallied-requires empty-requires returns returns-2)

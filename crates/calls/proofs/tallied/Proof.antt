@@ -1,10 +1,11 @@
 -- `tallied` meets its contract: what the sweep keeps beside its one cell.
-use mathlib.Core.Path.{ap, _∙_}
+use mathlib.Core.Path.{subst}
 use mathlib.Core.List.{[], _∷_}
 use borrow.Author.Needs.{needs}
-use Rattle.tally.specs.Seen.{Kept, kept}
+use Rattle.term.specs.Variants.{variantCount}
+use Rattle.tally.specs.Seen.{kept}
 use Rattle.tally.specs.declared.Tally.{Tally}
-use Rattle.sweep.specs.Swept.{swept}
+use Rattle.sweep.specs.Swept.{Swept}
 use Rattle.calls.proofs.tallied.Statement.{statement}
 use Rattle.calls.proofs.tallied.Tie as tie
 
@@ -21,9 +22,13 @@ returns : tie.Need-returns
 returns c =
     let none = c .before .before .before in
     let a = none .before .args in
-    λ t holds.
-    ap (λ (k : Kept). k .tally) (c .before .sweep .ensures t holds)
-    ∙ ap (λ (x : Tally). swept (a .campaign) t (a .cap) (kept x (0 ∷ [])) .tally) (none .none .ensures)
+    λ t holds. (
+      c .before .sweep .last .1 .1 .1 .0,
+      subst
+          (λ (x : Tally). Swept (a .campaign) t (a .cap) (variantCount t) (kept x (0 ∷ []))
+          (kept (c .before .sweep .result) (c .before .sweep .last .1 .1 .1 .0)))
+          (none .none .ensures) (c .before .sweep .ensures t holds),
+    )
 
 pub tallied-spec : {M : Type 1} → statement M
 tallied-spec = tie.close (tie.spec none-requires slice-aggregate-sweep sweep-requires returns)

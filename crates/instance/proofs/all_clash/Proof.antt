@@ -1,7 +1,9 @@
 -- `all_clash` meets its contract. The loop's invariant: the members passed clash with every other member.
+use Prim.Native.Nat.{_<_}
 use native.Mathlib.Omega.{arith}
 use mathlib.Core.Path.{ap, _∙_}
 use lib.Bits.{bitOr}
+use Rattle.sets.specs.Sets.{most}
 use Rattle.sets.proofs.Members.{lowest-below, after-less}
 use Rattle.instance.specs.Table.{clashAt}
 use Rattle.instance.proofs.Clashes.{Facing, facing-none, facing-more, facing-no, facing-all}
@@ -20,39 +22,23 @@ loop-holds c = facing-none (c .args .table .now) (c .args .set) (c .pre)
 lowest-requires : tie.Need-lowest-requires Inv-loop μ-loop
 lowest-requires c κs = tt
 
+-- The lowest is one of the activities.
+below : (l : tie.After-lowest Inv-loop μ-loop) → l .lowest .result < most
+below l =
+    lowest-below (l .before .before .loop .left) (l .lowest .result) (l .before .before .loop .inv .low)
+    (l .before .loop-test .taken) (l .lowest .ensures)
+
 add-union : tie.Need-add-union Inv-loop μ-loop
-add-union c =
-    omega (
-      arith,
-      lowest-below (c .before .before .loop .left) (c .lowest .result) (c .before .before .loop .inv .low)
-          (c .before .loop-test .taken) (c .lowest .ensures),
-    )
+add-union c = omega (arith, below c)
 
 mul-union : tie.Need-mul-union Inv-loop μ-loop
-mul-union c =
-    omega (
-      arith,
-      lowest-below (c .before .before .loop .left) (c .lowest .result) (c .before .before .loop .inv .low)
-          (c .before .loop-test .taken) (c .lowest .ensures),
-    )
+mul-union c = omega (arith, below c)
 
 element-copy-out-union : tie.Need-element-copy-out-union Inv-loop μ-loop
-element-copy-out-union c =
-    omega (
-      arith,
-      lowest-below (c .before .before .loop .left) (c .lowest .result) (c .before .before .loop .inv .low)
-          (c .before .loop-test .taken) (c .lowest .ensures),
-    )
+element-copy-out-union c = omega (arith, below c)
 
 single-requires : tie.Need-single-requires Inv-loop μ-loop
-single-requires c κs =
-    let low = c .before in
-    let at = low .before .before in
-    omega (
-      arith,
-      lowest-below (at .loop .left) (low .lowest .result) (at .loop .inv .low) (low .before .loop-test .taken)
-          (low .lowest .ensures),
-    )
+single-requires c κs = omega (arith, below (c .before))
 
 union-requires : tie.Need-union-requires Inv-loop μ-loop
 union-requires c κs = tt

@@ -1,5 +1,7 @@
 -- `joined` meets its contract. The loop's invariant: the components of the members passed are joined.
+use Prim.Native.Nat.{_<_}
 use native.Mathlib.Omega.{arith}
+use Rattle.sets.specs.Sets.{most}
 use Rattle.sets.proofs.Members.{lowest-below, after-less}
 use Rattle.instance.proofs.Merging.{Joining, joining-none, joining-more, joining-all}
 use Rattle.instance.proofs.joined.Statement.{statement}
@@ -17,29 +19,20 @@ loop-holds c = joining-none (c .args .table .now) (c .args .set) (c .pre .0)
 lowest-requires : tie.Need-lowest-requires Inv-loop μ-loop
 lowest-requires c κs = tt
 
+-- The lowest is one of the activities.
+below : (l : tie.After-lowest Inv-loop μ-loop) → l .lowest .result < most
+below l =
+    lowest-below (l .before .before .loop .rest) (l .lowest .result) (l .before .before .loop .inv .low)
+    (l .before .loop-test .taken) (l .lowest .ensures)
+
 add-union : tie.Need-add-union Inv-loop μ-loop
-add-union c =
-    omega (
-      arith,
-      lowest-below (c .before .before .loop .rest) (c .lowest .result) (c .before .before .loop .inv .low)
-          (c .before .loop-test .taken) (c .lowest .ensures),
-    )
+add-union c = omega (arith, below c)
 
 mul-union : tie.Need-mul-union Inv-loop μ-loop
-mul-union c =
-    omega (
-      arith,
-      lowest-below (c .before .before .loop .rest) (c .lowest .result) (c .before .before .loop .inv .low)
-          (c .before .loop-test .taken) (c .lowest .ensures),
-    )
+mul-union c = omega (arith, below c)
 
 element-copy-out-union : tie.Need-element-copy-out-union Inv-loop μ-loop
-element-copy-out-union c =
-    omega (
-      arith,
-      lowest-below (c .before .before .loop .rest) (c .lowest .result) (c .before .before .loop .inv .low)
-          (c .before .loop-test .taken) (c .lowest .ensures),
-    )
+element-copy-out-union c = omega (arith, below c)
 
 union-requires : tie.Need-union-requires Inv-loop μ-loop
 union-requires c κs = tt

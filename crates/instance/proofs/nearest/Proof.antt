@@ -1,6 +1,8 @@
 -- `nearest` meets its contract. The loop's invariant: what is left of the set has the members that precede none of
 -- those looked at.
+use Prim.Native.Nat.{_<_}
 use native.Mathlib.Omega.{arith}
+use Rattle.sets.specs.Sets.{most}
 use Rattle.sets.proofs.Members.{lowest-below, after-less}
 use Rattle.instance.proofs.Links.{Nearing, nearing-none, nearing-more}
 use Rattle.instance.proofs.nearest.Statement.{statement}
@@ -18,29 +20,20 @@ loop-holds c = nearing-none (c .args .table .now) (c .args .set) (c .pre)
 lowest-requires : tie.Need-lowest-requires Inv-loop μ-loop
 lowest-requires c κs = tt
 
+-- The lowest is one of the activities.
+below : (l : tie.After-lowest Inv-loop μ-loop) → l .lowest .result < most
+below l =
+    lowest-below (l .before .before .loop .rest) (l .lowest .result) (l .before .before .loop .inv .low)
+    (l .before .loop-test .taken) (l .lowest .ensures)
+
 add-minus : tie.Need-add-minus Inv-loop μ-loop
-add-minus c =
-    omega (
-      arith,
-      lowest-below (c .before .before .loop .rest) (c .lowest .result) (c .before .before .loop .inv .low)
-          (c .before .loop-test .taken) (c .lowest .ensures),
-    )
+add-minus c = omega (arith, below c)
 
 mul-minus : tie.Need-mul-minus Inv-loop μ-loop
-mul-minus c =
-    omega (
-      arith,
-      lowest-below (c .before .before .loop .rest) (c .lowest .result) (c .before .before .loop .inv .low)
-          (c .before .loop-test .taken) (c .lowest .ensures),
-    )
+mul-minus c = omega (arith, below c)
 
 element-copy-out-minus : tie.Need-element-copy-out-minus Inv-loop μ-loop
-element-copy-out-minus c =
-    omega (
-      arith,
-      lowest-below (c .before .before .loop .rest) (c .lowest .result) (c .before .before .loop .inv .low)
-          (c .before .loop-test .taken) (c .lowest .ensures),
-    )
+element-copy-out-minus c = omega (arith, below c)
 
 minus-requires : tie.Need-minus-requires Inv-loop μ-loop
 minus-requires c κs = tt

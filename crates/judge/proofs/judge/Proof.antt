@@ -21,10 +21,11 @@ sized b =
     let t = b .parse-file .result .tables in
     let fields = b .parse-file .ok .1 .1 .1 .0 .1 .1 in
     record {
-      resource = sym (length-map (t .resource) (λ v. v)) ∙ fields .1 .1 .0 .1 .0 .1;
-      duration = sym (length-map (t .duration) (λ v. v)) ∙ fields .1 .1 .1 .0 .1 .0 .1;
-      letter = sym (length-map (t .letter) (λ v. v)) ∙ fields .1 .1 .1 .1 .1 .0 .1 .0 .1;
-      number = sym (length-map (t .number) (λ v. v)) ∙ fields .1 .1 .1 .1 .1 .1 .0 .1 .0 .1;
+      capacity = sym (length-map (t .capacity) (λ v. v)) ∙ fields .1 .1 .0 .1 .0 .1;
+      duration = sym (length-map (t .duration) (λ v. v)) ∙ fields .1 .1 .1 .1 .0 .1 .0 .1;
+      units = sym (length-map (t .units) (λ v. v)) ∙ fields .1 .1 .1 .1 .1 .0 .1 .0 .1;
+      letter = sym (length-map (t .letter) (λ v. v)) ∙ fields .1 .1 .1 .1 .1 .1 .1 .0 .1 .0 .1;
+      number = sym (length-map (t .number) (λ v. v)) ∙ fields .1 .1 .1 .1 .1 .1 .1 .1 .0 .1 .0 .1;
     }
 
 judge-term-requires : tie.Need-judge-term-requires

@@ -2,8 +2,11 @@
 use mathlib.Core.Path.{refl, sym, _∙_}
 use native.Mathlib.Omega.{arith}
 use Rattle.base.proofs.Bools.{true-not-false}
+use Rattle.plan.specs.Limits.{between}
+use Rattle.format.specs.Parse.{number}
 use Rattle.format.proofs.Tests.{between-facts}
-use Rattle.parser.proofs.Readers.{count-reads}
+use Rattle.parser.proofs.Matching.{matches-one}
+use Rattle.parser.proofs.Readers.{ranged-reads}
 use borrow.Author.Needs.{needs}
 use Rattle.parser.proofs.read_count.Statement.{statement}
 use Rattle.parser.proofs.read_count.Tie as tie
@@ -30,8 +33,9 @@ returns c =
     let high = start .args .high in
     record {
       reads =
-          count-reads (taken .take-line .ensures) (c .before .test-line .ensures) (start .args .form .now)
-          (line .ensures) low high (start .pre .1) (test .in-range .ensures) (λ t. refl);
+          ranged-reads (matches-one (line .result) (start .args .form .now) (line .ensures) (start .pre .1))
+          (taken .take-line .ensures) (c .before .test-line .ensures) number (between low high)
+          (test .in-range .ensures) (λ t. refl);
       most = between-facts low high (line .result .second) (sym (test .in-range .ensures) ∙ c .if1 .taken) .1;
     }
 
@@ -39,12 +43,14 @@ returns-2 : tie.Need-returns-2
 returns-2 c =
     let test = c .before .before in
     let taken = test .before in
+    let line = taken .before .read-line in
     let start = taken .before .before .before .before in
     record {
       reads =
-          count-reads (taken .take-line .ensures) (c .before .test-line .ensures) (start .args .form .now)
-          (taken .before .read-line .ensures) (start .args .low) (start .args .high) (start .pre .1)
-          (test .in-range .ensures) (λ t. true-not-false t (c .if1 .left));
+          ranged-reads (matches-one (line .result) (start .args .form .now) (line .ensures) (start .pre .1))
+          (taken .take-line .ensures) (c .before .test-line .ensures) number
+          (between (start .args .low) (start .args .high)) (test .in-range .ensures)
+          (λ t. true-not-false t (c .if1 .left));
       most = omega arith;
     }
 

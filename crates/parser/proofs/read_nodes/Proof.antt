@@ -2,31 +2,29 @@
 use Prim.Native.Nat.{_-_}
 use mathlib.Core.Path.{refl}
 use native.Mathlib.Omega.{arith}
-use Rattle.plan.specs.Limits.{mostNodes}
-use Rattle.format.proofs.Columns.{nodes as columns}
 use Rattle.format.specs.Parse.{aNode}
-use Rattle.parser.proofs.Loops.{ReadSoFar, none-read, one-read, all-read}
+use Rattle.parser.proofs.Filling.{Nodes, nodes-none, nodes-one, nodes-all}
 use Rattle.parser.proofs.read_nodes.Statement.{statement}
 use Rattle.parser.proofs.read_nodes.Tie as tie
 
 abbrev Inv-loop : tie.InvT-loop
 Inv-loop file acts nodes last₀ letter₀ number₀ i₀ last letter number i =
-    ReadSoFar columns (aNode acts) mostNodes file last₀ nodes i last letter number
+    Nodes (aNode acts) file last₀ nodes i last letter number
 
 abbrev μ-loop : tie.MeasureT-loop
 μ-loop file acts nodes last₀ letter₀ number₀ i₀ last letter number i = nodes - i
 
 loop-holds : tie.Need-loop-holds Inv-loop μ-loop
-loop-holds c = none-read (omega arith) refl refl
+loop-holds c = nodes-none (omega arith) refl refl
 
 loop-again : tie.Need-loop-again Inv-loop μ-loop
 loop-again c =
     let line = c .before .read-node in
-    one-read (c .before .before .before .loop .inv) (omega arith) (line .result .letter) (line .result .number)
+    nodes-one (c .before .before .before .loop .inv) (omega arith) (line .result .letter) (line .result .number)
     (line .ensures)
 
 returns : tie.Need-returns Inv-loop μ-loop
-returns c = all-read (c .before .loop .inv) (omega arith)
+returns c = nodes-all (c .before .loop .inv) (omega arith)
 
 pub read-nodes-spec : {M : Type 1} → statement M
 read-nodes-spec =

@@ -3,12 +3,12 @@ use mathlib.Core.Path.{sym, refl, ap₂, _∙_}
 use native.Mathlib.Omega.{arith}
 use Rattle.plan.specs.Limits.{nodeForm}
 use Rattle.plan.specs.Plan.{nodeOf}
-use Rattle.format.specs.Parse.{isRanged}
+use Rattle.format.specs.Parse.{node-of, isRanged}
 use Rattle.base.proofs.Bools.{true-not-false}
 use Rattle.plan.proofs.Nodes.{node-number}
-use Rattle.format.proofs.Columns.{nodes}
 use Rattle.format.proofs.Plans.{node-same, ranged-most}
-use Rattle.parser.proofs.Readers.{pair-reads}
+use Rattle.parser.proofs.Matching.{matches-two}
+use Rattle.parser.proofs.Readers.{ranged-reads}
 use borrow.Author.Needs.{needs}
 use Rattle.parser.proofs.read_ranged.Statement.{statement}
 use Rattle.parser.proofs.read_ranged.Tie as tie
@@ -53,8 +53,8 @@ returns c =
     let start = line .before .before .before in
     let letter = line .read-line .result .first in
     let number = line .read-line .result .second in
-    pair-reads (taken .take-line .ensures) (c .before .test-line .ensures) nodeForm (line .read-line .ensures) nodes
-    (isRanged (start .args .acts)) refl
+    ranged-reads (matches-two (line .read-line .result) nodeForm (line .read-line .ensures) refl)
+    (taken .take-line .ensures) (c .before .test-line .ensures) node-of (isRanged (start .args .acts))
     (test .is-ranged .ensures)
     (λ t. sym (ap₂ nodeOf (taken .before .letter-of .ensures number) (sym (node-number letter number))
     ∙ node-same (nodeOf letter number)))
@@ -65,8 +65,8 @@ returns-2 c =
     let taken = test .before in
     let line = taken .before .before in
     let start = line .before .before .before in
-    pair-reads (taken .take-line .ensures) (c .before .test-line .ensures) nodeForm (line .read-line .ensures) nodes
-    (isRanged (start .args .acts)) refl
+    ranged-reads (matches-two (line .read-line .result) nodeForm (line .read-line .ensures) refl)
+    (taken .take-line .ensures) (c .before .test-line .ensures) node-of (isRanged (start .args .acts))
     (test .is-ranged .ensures) (λ t. true-not-false t (c .if1 .left))
 
 pub read-ranged-spec : {M : Type 1} → statement M

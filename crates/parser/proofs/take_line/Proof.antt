@@ -11,7 +11,8 @@ stopped-requires : tie.Need-stopped-requires
 stopped-requires c κs = search needs
 
 returns-2 : tie.Need-returns-2
-returns-2 c = let form = c .before in taken-form (form .before .before .if1 .left) (form .if2 .taken) (c .stopped .ensures)
+returns-2 c =
+    let form = c .before in taken-form (form .before .before .if1 .left) (form .if2 .taken) (c .stopped .ensures)
 
 add-next : tie.Need-add-next
 add-next c = search needs

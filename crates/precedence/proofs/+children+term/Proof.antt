@@ -20,23 +20,23 @@ use Rattle.sets.proofs.union.Reads as union-reads
 use Rattle.precedence.proofs.+children+term.{statement}
 use Rattle.precedence.proofs.+children+term.Tie.{close}
 
-abbrev μ-children : Measures 2 children-kinds.ps ℕ
+abbrev μ-children : Measures 3 children-kinds.ps ℕ
 μ-children κs a = 2 * (length (a .0 .now) - a .1 .1 .0) + 1
 
-abbrev μ-term : Measures 2 term-kinds.ps ℕ
+abbrev μ-term : Measures 3 term-kinds.ps ℕ
 μ-term κs a = 2 * (length (a .0 .now) - a .1 .1 .0)
 
-abbrev children-at : ℕ → In 2 children-kinds.ps
-children-at t = and 2 children-kinds.ps (is 2 children-kinds.ps μ-children t) children.Pre
+abbrev children-at : ℕ → In 3 children-kinds.ps
+children-at t = and 3 children-kinds.ps (is 3 children-kinds.ps μ-children t) children.Pre
 
-abbrev children-below : ℕ → In 2 children-kinds.ps
-children-below t = and 2 children-kinds.ps (falls 2 children-kinds.ps _<_ μ-children t) children.Pre
+abbrev children-below : ℕ → In 3 children-kinds.ps
+children-below t = and 3 children-kinds.ps (falls 3 children-kinds.ps _<_ μ-children t) children.Pre
 
-abbrev term-at : ℕ → In 2 term-kinds.ps
-term-at t = and 2 term-kinds.ps (is 2 term-kinds.ps μ-term t) term.Pre
+abbrev term-at : ℕ → In 3 term-kinds.ps
+term-at t = and 3 term-kinds.ps (is 3 term-kinds.ps μ-term t) term.Pre
 
-abbrev term-below : ℕ → In 2 term-kinds.ps
-term-below t = and 2 term-kinds.ps (falls 2 term-kinds.ps _<_ μ-term t) term.Pre
+abbrev term-below : ℕ → In 3 term-kinds.ps
+term-below t = and 3 term-kinds.ps (falls 3 term-kinds.ps _<_ μ-term t) term.Pre
 
 -- What `children` calls, and what `term` calls.
 abbrev of-children : ℕ → children-lts.Claims
@@ -59,16 +59,17 @@ module _ (t : ℕ) where
   children-returns c =
       let s = c .before .before .before in
       let a = s .args in
-      none-left (a .letter .now) (a .number .now) (a .at) (a .in-sequence) (a .left) (a .before) (a .preds)
+      none-left (a .letter .now) (a .number .now) (a .at) (a .in-sequence) (a .left) (a .before) (a .preds .now)
       (c .if1 .taken) (s .pre .1 .1)
 
   children-term-requires : children-lts.Need-term-requires (of-children t) (children-at t) children.Post
   children-term-requires c κs =
-      let s = c .before .before .before in
+      let some = c .before in
+      let s = some .before .before .before in
       let a = s .args in (
         omega (arith, s .pre .0),
         (
-          child-begins (a .letter .now) (a .number .now) (a .at) (a .left) (c .if1 .left) (s .pre .1 .0),
+          child-begins (a .letter .now) (a .number .now) (a .at) (a .left) (some .if1 .left) (s .pre .1 .0),
           s .pre .1 .1,
         ),
       )
@@ -83,12 +84,13 @@ module _ (t : ℕ) where
   children-children-requires c κs =
       let next = c .before in
       let first = next .before in
-      let s = first .before .before .before .before in
+      let some = first .before .before in
+      let s = some .before .before .before in
       let a = s .args in
       let (inside, further, begins, low) =
       others-begin (a .letter .now) (a .number .now) (a .at) (a .in-sequence) (a .left) (a .before)
-      (next .after .result) (a .preds) (first .term .result)
-      (first .before .if1 .left) (s .pre .1 .0) (s .pre .1 .1) (first .term .ensures) (next .after .ensures) in
+      (next .after .result) (a .preds .now) _ (first .term .result) (some .if1 .left) (s .pre .1 .0) (s .pre .1 .1)
+      (first .term .ensures) (next .after .ensures) in
       (omega (arith, s .pre .0), (begins, low))
 
   children-union-requires : children-lts.Need-union-requires (of-children t) (children-at t) children.Post
@@ -96,15 +98,14 @@ module _ (t : ℕ) where
 
   children-returns-2 : children-lts.Need-returns-2 (of-children t) (children-at t) children.Post
   children-returns-2 c =
-      let rest = c .before .before in
+      let rest = c .before in
       let next = rest .before .before in
       let first = next .before in
-      let a = first .before .before .before .before .args in
+      let some = first .before .before in
+      let a = some .before .before .before .args in
       children-read (a .letter .now) (a .number .now) (a .at) (a .in-sequence) (a .left) (a .before)
-      (next .after .result) (c .union .result) (a .preds)
-      (first .term .result) (rest .children .result) (first .before .if1 .left) (first .term .ensures)
-      (next .after .ensures) (rest .children .ensures)
-      (c .union .ensures)
+      (next .after .result) (c .union .result) (a .preds .now) _ _ (first .term .result) (rest .children .result)
+      (some .if1 .left) (first .term .ensures) (next .after .ensures) (rest .children .ensures) (c .union .ensures)
 
   -- The node that `term` reads stands in both tables.
   read : (s : term-lts.Start (of-term t) (term-at t) term.Post)
@@ -125,32 +126,36 @@ module _ (t : ℕ) where
 
   term-activity-requires : term-lts.Need-activity-requires (of-term t) (term-at t) term.Post
   term-activity-requires c κs =
-      let s = c .before .before .before .before .before in
+      let one = c .before in
+      let s = one .before .before .before .before .before in
       let a = s .args in
-      (leaf-ranged (a .letter .now) (a .number .now) (a .at) (c .if1 .taken) (s .pre .1 .0), s .pre .1 .1)
+      (leaf-ranged (a .letter .now) (a .number .now) (a .at) (one .if1 .taken) (s .pre .1 .0), s .pre .1 .1)
 
   term-returns : term-lts.Need-returns (of-term t) (term-at t) term.Post
   term-returns c =
-      let a = c .before .before .before .before .before .before .args in
-      leaf-read (a .letter .now) (a .number .now) (a .at) (a .before) (a .preds) (c .activity .result)
-      (c .before .if1 .taken) (c .activity .ensures)
+      let one = c .before .before in
+      let a = one .before .before .before .before .before .args in
+      leaf-read (a .letter .now) (a .number .now) (a .at) (a .before) (a .preds .now) _ (c .activity .result)
+      (one .if1 .taken) (c .activity .ensures)
 
   term-add-children : term-lts.Need-add-children (of-term t) (term-at t) term.Post
   term-add-children c = omega (arith, read (c .before .before .before .before .before))
 
   term-children-requires : term-lts.Need-children-requires (of-term t) (term-at t) term.Post
   term-children-requires c κs =
-      let s = c .before .before .before .before .before in
+      let group = c .before in
+      let s = group .before .before .before .before .before in
       let a = s .args in (
         omega (arith, s .pre .0, read s),
-        (group-begins (a .letter .now) (a .number .now) (a .at) (c .if1 .left) (s .pre .1 .0), s .pre .1 .1),
+        (group-begins (a .letter .now) (a .number .now) (a .at) (group .if1 .left) (s .pre .1 .0), s .pre .1 .1),
       )
 
   term-returns-2 : term-lts.Need-returns-2 (of-term t) (term-at t) term.Post
   term-returns-2 c =
-      let a = c .before .before .before .before .before .before .args in
-      group-read (a .letter .now) (a .number .now) (a .at) (a .before) (a .preds) (c .children .result)
-      (c .before .if1 .left) (c .children .ensures)
+      let group = c .before .before in
+      let a = group .before .before .before .before .before .args in
+      group-read (a .letter .now) (a .number .now) (a .at) (a .before) (a .preds .now) _ (c .children .result)
+      (group .if1 .left) (c .children .ensures)
 
 pub +children+term-spec : {M : Type 1} → statement M
 +children+term-spec =

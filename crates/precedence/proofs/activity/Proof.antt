@@ -7,29 +7,30 @@ use Rattle.precedence.proofs.activity.Tie as tie
 mul-union : tie.Need-mul-union
 mul-union c = search needs
 
-array-read-union : tie.Need-array-read-union
-array-read-union c = search needs
+element-copy-out-union : tie.Need-element-copy-out-union
+element-copy-out-union c = search needs
 
 union-requires : tie.Need-union-requires
 union-requires c κs = search needs
 
-mul-joined : tie.Need-mul-joined
-mul-joined c = search needs
+mul-preds : tie.Need-mul-preds
+mul-preds c = search needs
 
-array-write-joined : tie.Need-array-write-joined
-array-write-joined c = search needs
+element-write-preds : tie.Need-element-write-preds
+element-write-preds c = search needs
 
 single-requires : tie.Need-single-requires
 single-requires c κs = search needs
 
 returns : tie.Need-returns
 returns c =
-    let s = c .before .before in
-    one (s .args .i) (s .args .next) (s .args .before) (c .single .result) (c .before .union .result) (s .args .preds)
-    (s .pre .0)
-    (s .good .1 .1 .1 .0 .1 .0 .1) (s .pre .1) (c .single .ensures) (c .before .union .ensures)
+    let u = c .before in
+    let s = u .before .before in
+    let a = s .args in
+    one (a .i) (a .next) (a .before) (c .single .result) (u .union .result) (a .preds .now) (s .pre .0) (s .pre .1)
+    (c .single .ensures) (u .union .ensures)
 
 pub activity-spec : {M : Type 1} → statement M
 activity-spec =
     tie.close
-    (tie.spec mul-union array-read-union union-requires mul-joined array-write-joined single-requires returns)
+    (tie.spec mul-union element-copy-out-union union-requires mul-preds element-write-preds single-requires returns)

@@ -28,14 +28,13 @@ slice-aggregate-term-2 c =
 
 term-requires : tie.Need-term-requires
 term-requires c κs =
-    let s = c .before .before .before .before in
+    let s = c .before .before .before .before .before in
     (begins (s .args .letter .now) (s .args .number .now) (s .args .nodes) (s .pre), low-at-first)
 
 returns : tie.Need-returns
 returns c =
     let a = c .before .before .before .before .before .before .args in
-    found (take (a .nodes) (a .letter .now)) (take (a .nodes) (a .number .now)) (c .before .term .result)
-    (c .before .term .ensures)
+    found (take (a .nodes) (a .letter .now)) (take (a .nodes) (a .number .now)) _ (c .term .result) (c .term .ensures)
 
 pub ordered-spec : {M : Type 1} → statement M
 ordered-spec = tie.close (tie.spec slice-aggregate-term slice-aggregate-term-2 term-requires returns)

@@ -4,7 +4,8 @@ use borrow.Author.Needs.{needs}
 use mathlib.Core.Path.{sym, _∙_}
 use lib.Bits.{and-le-l}
 use Rattle.instance.specs.Table.{clashAt}
-use Rattle.profile.proofs.Over.{over-soon, over-among, over-clash, over-few, over-blocked}
+use Rattle.profile.proofs.Room.{among-running}
+use Rattle.profile.proofs.Over.{over-soon, over-clash, over-few, over-blocked}
 use Rattle.profile.proofs.blocked.Statement.{statement}
 use Rattle.profile.proofs.blocked.Tie as tie
 
@@ -91,7 +92,7 @@ crowded-requires c κs =
     let a = start .args in
     let t = a .table .now in
     let w = a .work .now in (
-      over-among t w (a .set) (a .i) (a .x) (start .pre .0) (over .running .ensures),
+      among-running t w (a .set) (a .i) (start .pre .0) (over .running .ensures),
       start .pre .1,
       over-soon t w (a .set) (a .i) (a .x) (start .pre .0) (over .running .ensures),
     )

@@ -1,7 +1,8 @@
 -- `full_until` meets its contract.
 use borrow.Author.Needs.{needs}
 use mathlib.Core.Path.{sym, _∙_}
-use Rattle.profile.proofs.Fits.{full-none, full-some, full-least}
+use Rattle.profile.proofs.Room.{others, among-running, left-some}
+use Rattle.profile.proofs.Fits.{full-none, full-least}
 use Rattle.profile.proofs.full_until.Statement.{statement}
 use Rattle.profile.proofs.full_until.Tie as tie
 
@@ -21,8 +22,12 @@ returns c =
 least-requires : tie.Need-least-requires
 least-requires c κs =
     let on = c .before .before in
-    let a = on .before .args in (
-      full-some (a .table .now) (a .work .now) (a .set) (a .i) (a .tick) (on .running .ensures) (on .before .pre .0)
+    let a = on .before .args in
+    let t = a .table .now in
+    let w = a .work .now in
+    let r = on .running .result in (
+      left-some t r (a .i)
+          (others t w r (a .i) (among-running t w (a .set) (a .i) (on .before .pre .0) (on .running .ensures)))
           (sym (c .before .is-left .ensures) ∙ c .if1 .left),
       on .running .ensures .low,
     )

@@ -1,160 +1,128 @@
 -- `is_soonest` meets its contract. The loop's invariant: j fits on no tick before t.
-use Prim.Native.Nat.{_-_}
+use Prim.Native.Nat.{_-_, _<_}
 use native.Mathlib.Omega.{arith}
-use borrow.Author.Needs.{needs}
-use mathlib.Core.Path.{sym}
+use mathlib.Core.Path.{sym, subst}
 use Rattle.plan.specs.Limits.{latestPossible}
-use Rattle.candidates.specs.Tables.{problemIn}
-use Rattle.candidates.proofs.Columns.{duration-at}
-use Rattle.soonest.proofs.Waits.{Waits, waits-none, waits-more, clash-later, over-early, soonest-never}
-use Rattle.soonest.proofs.Waits.{soonest-not, soonest-is}
+use Rattle.sets.specs.Sets.{most}
+use Rattle.profile.specs.Room.{Among, Blocked}
+use Rattle.soonest.specs.Soonest.{othersOf}
+use Rattle.soonest.proofs.Row.{present-below, among-others}
+use Rattle.soonest.proofs.Waits.{Waits, waits-none, waits-more, latest-early, soonest-never, soonest-not}
+use Rattle.soonest.proofs.Waits.{soonest-is}
 use Rattle.soonest.proofs.is_soonest.Statement.{statement}
 use Rattle.soonest.proofs.is_soonest.Tie as tie
 
 abbrev Inv-loop : tie.InvT-loop
-Inv-loop table work before j duration t₀ t = Waits (problemIn table) work before j t
+Inv-loop table work before j others duration end t₀ t = Waits table work before j t
 
 abbrev μ-loop : tie.MeasureT-loop
-μ-loop table work before j duration t₀ t = latestPossible - t
+μ-loop table work before j others duration end t₀ t = latestPossible - t
 
-mul-duration-of : tie.Need-mul-duration-of Inv-loop μ-loop
-mul-duration-of c = omega arith
+others-of-requires : tie.Need-others-of-requires Inv-loop μ-loop
+others-of-requires c κs = (c .pre .0, c .pre .3)
 
-element-copy-out-duration-of : tie.Need-element-copy-out-duration-of Inv-loop μ-loop
-element-copy-out-duration-of c = omega arith
+below : (l : tie.After-others-of Inv-loop μ-loop) → l .before .args .j < most
+below l =
+    let s = l .before in
+    present-below (s .args .table .now) (s .args .j) (s .pre .0) (s .pre .3)
 
-duration-of-requires : tie.Need-duration-of-requires Inv-loop μ-loop
-duration-of-requires c κs = search needs
+mul-duration : tie.Need-mul-duration Inv-loop μ-loop
+mul-duration c = omega (arith, below c)
+
+element-copy-out-duration : tie.Need-element-copy-out-duration Inv-loop μ-loop
+element-copy-out-duration c = omega (arith, below c)
+
+end-of-requires : tie.Need-end-of-requires Inv-loop μ-loop
+end-of-requires c κs = omega (arith, below (c .before))
 
 latest-requires : tie.Need-latest-requires Inv-loop μ-loop
-latest-requires c κs = omega arith
-
-mul-if1 : tie.Need-mul-if1 Inv-loop μ-loop
-mul-if1 c = omega arith
-
-element-copy-out-if1 : tie.Need-element-copy-out-if1 Inv-loop μ-loop
-element-copy-out-if1 c = omega arith
+latest-requires c κs = c .before .before .before .pre .2
 
 add-if1 : tie.Need-add-if1 Inv-loop μ-loop
 add-if1 c =
-    let start = c .before .before .before .before in
-    let a = start .args in
+    let others = c .before .before .before in
+    let s = others .before in
+    let a = s .args in
     omega (
       arith,
-      c .before .latest .ensures,
-      over-early (problemIn (a .table .now)) (a .work .now) (a .before) (a .j) (start .pre .3 .times),
-      c .before .before .duration-of .ensures,
-      start .pre .3 .durations (a .j) (start .pre .1),
+      c .latest .ensures,
+      latest-early (a .work .now) (a .before) (s .pre .1 .timed),
+      s .pre .0 .laid .short (a .j) (below others),
     )
 
 returns : tie.Need-returns Inv-loop μ-loop
 returns c =
-    let latest = c .before .before in
-    let start = latest .before .before .before in
-    let a = start .args in
-    sym
-    (soonest-never (problemIn (a .table .now)) (a .work .now) (a .before) (a .j) (latest .latest .result)
-    (latest .latest .ensures)
-    (omega (
-      arith,
-      c .if1 .taken,
-      latest .before .duration-of .ensures,
-      duration-at (a .table .now) (a .j) (omega (arith, start .pre .1)),
-    )))
+    let latest = c .before in
+    let a = latest .before .before .before .before .args in
+    soonest-never (a .table .now) (a .work .now) (a .before) (a .j) (latest .latest .result) (latest .latest .ensures)
+    (omega (arith, c .if1 .taken, latest .before .end-of .ensures))
 
 loop-holds : tie.Need-loop-holds Inv-loop μ-loop
 loop-holds c =
-    let latest = c .before .before in
-    let start = latest .before .before .before in
-    let a = start .args in
-    waits-none (problemIn (a .table .now)) (a .work .now) (a .before) (a .j) (latest .latest .result)
-    (start .pre .3 .times)
+    let latest = c .before in
+    let s = latest .before .before .before .before in
+    let a = s .args in
+    waits-none (a .table .now) (a .work .now) (a .before) (a .j) (latest .latest .result) (s .pre .1 .timed)
     (latest .latest .ensures)
-    (omega (
-      arith,
-      c .if1 .left,
-      latest .before .duration-of .ensures,
-      duration-at (a .table .now) (a .j) (omega (arith, start .pre .1)),
-    ))
+    (omega (arith, c .if1 .left, latest .before .end-of .ensures))
 
-add-if2 : tie.Need-add-if2 Inv-loop μ-loop
-add-if2 c =
-    let one = c .before .before .before .before in
-    let start = one .before .before in
-    omega (
-      arith,
-      c .loop .inv .low,
-      one .duration-of .ensures,
-      start .pre .3 .durations (start .args .j) (start .pre .1),
+add-loop : tie.Need-add-loop Inv-loop μ-loop
+add-loop c =
+    let others = c .before .before .before .before .before in
+    let s = others .before in
+    omega (arith, c .loop .inv .low, s .pre .0 .laid .short (s .args .j) (below others))
+
+blocked-requires : tie.Need-blocked-requires Inv-loop μ-loop
+blocked-requires c κs =
+    let at = c .before in
+    let others = at .before .before .before .before .before in
+    let s = others .before in
+    let a = s .args in (
+      subst (λ x. Among (a .table .now) (a .work .now) x (a .j)) (sym (others .others-of .ensures))
+          (among-others (a .table .now) (s .pre .0) (a .j) (s .pre .3) (a .work .now) (s .pre .1)),
+      at .loop .inv .low,
     )
 
-mul-if2 : tie.Need-mul-if2 Inv-loop μ-loop
-mul-if2 c = omega arith
-
-element-copy-out-if2 : tie.Need-element-copy-out-if2 Inv-loop μ-loop
-element-copy-out-if2 c = omega arith
-
-clash-end-requires : tie.Need-clash-end-requires Inv-loop μ-loop
-clash-end-requires c κs =
-    let at = c .before .before in
-    let pre = at .before .before .before .before .before .before .pre in
-    (pre .1, at .loop .inv .low, pre .2, pre .3)
+-- What is in the way of j among the others.
+found : (b : tie.After-blocked Inv-loop μ-loop)
+    → let at = b .before .before in
+    let a = at .before .before .before .before .before .before .args in
+    Blocked (a .table .now) (a .work .now) (othersOf (a .table .now) (a .j)) (a .j) (at .loop .t) (b .blocked .result)
+found b =
+    let at = b .before .before in
+    let others = at .before .before .before .before .before in
+    let a = others .before .args in
+    subst (λ x. Blocked (a .table .now) (a .work .now) x (a .j) (at .loop .t) (b .blocked .result))
+    (others .others-of .ensures) (b .blocked .ensures)
 
 returns-2 : tie.Need-returns-2 Inv-loop μ-loop
 returns-2 c =
-    let at = c .before .before .before .before in
-    let one = at .before .before .before .before in
-    let start = one .before .before in
-    let a = start .args in
-    sym
-    (soonest-not (problemIn (a .table .now)) (a .work .now) (a .before) (a .j) (at .loop .t) (at .loop .inv)
-    (c .before .clash-end .result)
-    (c .before .clash-end .ensures)
-    (c .if3 .taken)
-    (omega (
-      arith,
-      c .before .before .if2 .taken,
-      one .duration-of .ensures,
-      duration-at (a .table .now) (a .j) (omega (arith, start .pre .1)),
-    )))
+    let at = c .before .before .before in
+    let end = at .before .before .before in
+    let a = end .before .before .before .args in
+    soonest-not (a .table .now) (a .work .now) (a .before) (a .j) (at .loop .t) (at .loop .inv)
+    (c .before .blocked .result) (found (c .before)) (c .if2 .taken)
+    (omega (arith, c .before .before .loop-test .taken, end .end-of .ensures))
 
 loop-again : tie.Need-loop-again Inv-loop μ-loop
 loop-again c =
-    let at = c .before .before .before .before in
-    let start = at .before .before .before .before .before .before in
-    let a = start .args in
-    waits-more (problemIn (a .table .now)) (a .work .now) (a .before) (a .j) (at .loop .t) (at .loop .inv)
-    (c .before .clash-end .result)
-    (c .before .clash-end .ensures)
-    (start .pre .3 .times)
-    (omega (arith, c .if3 .left))
+    let at = c .before .before .before in
+    let s = at .before .before .before .before .before .before in
+    let a = s .args in
+    waits-more (a .table .now) (a .work .now) (a .before) (a .j) (at .loop .t) (at .loop .inv)
+    (c .before .blocked .result) (found (c .before)) (s .pre .1 .timed) (c .if2 .left)
 
 loop-less : tie.Need-loop-less Inv-loop μ-loop
 loop-less c =
-    let at = c .before .before .before .before in
-    let start = at .before .before .before .before .before .before in
-    let a = start .args in
-    omega (
-      arith,
-      loop-again c .low,
-      clash-later (problemIn (a .table .now)) (a .work .now) (a .before) (a .j) (at .loop .t) (at .loop .inv)
-          (c .before .clash-end .result) (c .before .clash-end .ensures) (omega (arith, c .if3 .left)),
-    )
+    omega (arith, loop-again c .low, found (c .before) .later (c .if2 .left))
 
 returns-3 : tie.Need-returns-3 Inv-loop μ-loop
 returns-3 c =
-    let at = c .before .before in
-    let one = at .before .before .before .before in
-    let start = one .before .before in
-    let a = start .args in
-    sym
-    (soonest-is (problemIn (a .table .now)) (a .work .now) (a .before) (a .j) (at .loop .t) (at .loop .inv)
-    (omega (
-      arith,
-      c .if2 .left,
-      one .duration-of .ensures,
-      duration-at (a .table .now) (a .j) (omega (arith, start .pre .1)),
-    )))
+    let at = c .before in
+    let end = at .before .before .before in
+    let a = end .before .before .before .args in
+    soonest-is (a .table .now) (a .work .now) (a .before) (a .j) (at .loop .t) (at .loop .inv)
+    (omega (arith, c .loop-test .left, end .end-of .ensures))
 
 pub is-soonest-spec : {M : Type 1} → statement M
 is-soonest-spec =
@@ -162,19 +130,16 @@ is-soonest-spec =
     (tie.spec
     Inv-loop
     μ-loop
-    mul-duration-of
-    element-copy-out-duration-of
-    duration-of-requires
+    others-of-requires
+    mul-duration
+    element-copy-out-duration
+    end-of-requires
     latest-requires
-    mul-if1
-    element-copy-out-if1
     add-if1
     returns
     loop-holds
-    add-if2
-    mul-if2
-    element-copy-out-if2
-    clash-end-requires
+    add-loop
+    blocked-requires
     returns-2
     loop-less
     loop-again

@@ -3,14 +3,12 @@
 use Prim.Native.Nat.{ℕ, _<_}
 use native.Mathlib.Omega.{arith}
 use borrow.Author.Needs.{needs}
-use mathlib.Core.Bool.{Bool}
 use mathlib.Core.List.{List}
 use lib.ListN.{getD}
-use Rattle.scan.specs.Union.{isSoonest}
-use Rattle.candidates.specs.Tables.{problemIn}
-use Rattle.candidates.proofs.Turns.{Turn, turned}
+use borrow.Author.Tests.{not-true, not-false}
 use Rattle.sets.specs.Sets.{most}
-use Rattle.soonest.proofs.Passed.{Passed, passes, fails, passed-none, passed-more, passed-all}
+use Rattle.soonest.specs.Soonest.{Soonest}
+use Rattle.sets.proofs.Turns.{Turn, turned, Passed, passed-none, passed-more, passed-all}
 use Rattle.soonest.proofs.misplaced.Statement.{statement}
 use Rattle.soonest.proofs.misplaced.Tie as tie
 use Rattle.soonest.proofs.misplaced.Reads as reads
@@ -20,11 +18,11 @@ use Rattle.sets.proofs.lowest.Reads as lowest-reads
 use Rattle.soonest.proofs.is_soonest.Reads as is-soonest-reads
 
 -- Activity j starts as soon as it fits in the order.
-abbrev soon : List ℕ → List ℕ → List ℕ → ℕ → Bool
-soon table work order j = isSoonest (problemIn table) work (getD order j 0) j
+abbrev Soon : List ℕ → List ℕ → List ℕ → ℕ → Type 0
+Soon table work order j = Soonest table work (getD order j 0) j
 
 abbrev Inv-loop : tie.InvT-loop
-Inv-loop table work set order rest₀ rest = Passed (soon table work order) set rest
+Inv-loop table work set order rest₀ rest = Passed (Soon table work order) set rest
 
 abbrev μ-loop : tie.MeasureT-loop
 μ-loop table work set order rest₀ rest = rest
@@ -57,7 +55,7 @@ turn l =
 loop-holds : tie.Need-loop-holds Inv-loop μ-loop
 loop-holds c =
     let a = c .before .args in
-    passed-none (soon (a .table .now) (a .work .now) (a .order .now)) (a .set) (c .before .pre .0)
+    passed-none (Soon (a .table .now) (a .work .now) (a .order .now)) (a .set) (c .before .pre .2)
 
 lowest-requires : tie.Need-lowest-requires Inv-loop μ-loop
 lowest-requires c κs = search needs
@@ -70,27 +68,29 @@ mul-is-soonest c = omega (arith, turn c .below)
 
 shared-slice-read-is-soonest : tie.Need-shared-slice-read-is-soonest Inv-loop μ-loop
 shared-slice-read-is-soonest c =
-    omega (arith, turn (c .before) .below, c .before .before .before .before .before .before .pre .1)
+    omega (arith, turn (c .before) .below, c .before .before .before .before .before .before .pre .4)
 
 is-soonest-requires : tie.Need-is-soonest-requires Inv-loop μ-loop
 is-soonest-requires c κs =
     let l = c .before in
     let pre = l .before .before .before .before .before .pre in
-    (pre .2 (l .before .lowest .result) (turn l .below), turn l .below, pre .3, pre .4)
+    let j = l .before .lowest .result in
+    let inside = l .before .before .before .loop .inv .inside in
+    (pre .0, pre .1, pre .5 j (turn l .below), pre .3 j (inside j (turn l .there)))
 
 returns : tie.Need-returns Inv-loop μ-loop
 returns c =
     let l = c .before .before .before in
     let at = l .before .before .before in
     let a = at .before .before .args in
-    let test = soon (a .table .now) (a .work .now) (a .order .now) in
+    let test = Soon (a .table .now) (a .work .now) (a .order .now) in
     let j = l .before .lowest .result in
     let below : j < most = turn l .below in
     record {
       upto = omega arith;
       one = λ some. (
         at .loop .inv .inside j (turn l .there),
-        fails test (a .set) j (c .before .is-soonest .result) (c .before .is-soonest .ensures) (c .if1 .taken),
+        c .before .is-soonest .ensures .fails (not-true (c .before .is-soonest .result) (c .if1 .taken)),
       );
       none = λ all. absurd (omega arith);
     }
@@ -103,16 +103,15 @@ loop-again c =
     let l = c .before .before .before in
     let at = l .before .before .before in
     let a = at .before .before .args in
-    let test = soon (a .table .now) (a .work .now) (a .order .now) in
+    let test = Soon (a .table .now) (a .work .now) (a .order .now) in
     passed-more test (a .set) (turn l)
-    (passes test (a .set) (l .before .lowest .result) (c .before .is-soonest .result) (c .before .is-soonest .ensures)
-    (c .if1 .left))
+    (c .before .is-soonest .ensures .holds (not-false (c .before .is-soonest .result) (c .if1 .left)))
     (at .loop .inv)
 
 returns-2 : tie.Need-returns-2 Inv-loop μ-loop
 returns-2 c =
     let a = c .before .before .before .args in
-    let test = soon (a .table .now) (a .work .now) (a .order .now) in
+    let test = Soon (a .table .now) (a .work .now) (a .order .now) in
     record {
       upto = omega arith;
       one = λ some. absurd (omega arith);

@@ -86,7 +86,8 @@ waiting-requires c κs = search needs
 loop-holds : tie.Need-loop-holds Inv-loop μ-loop
 loop-holds c =
     let a = c .before .args in
-    rw (c .waiting .ensures) (attaching (a .table .now) (a .line) (a .work .now) (c .before .pre .0))
+    rw (c .waiting .ensures)
+    (attaching (a .table .now) (a .line) (a .work .now) (c .before .pre .0) (c .before .pre .1))
 
 lowest-requires : tie.Need-lowest-requires Inv-loop μ-loop
 lowest-requires c κs = search needs
@@ -110,7 +111,7 @@ is-free-requires : tie.Need-is-free-requires Inv-loop μ-loop
 is-free-requires c κs =
     let l = c .before .before .before .before in
     let at = l .before .before .before in
-    (at .loop .inv .sets, at .before .before .pre .1, left l)
+    (at .loop .inv .sets, at .loop .inv .runs, left l)
 
 store-ready-requires : tie.Need-store-ready-requires Inv-loop μ-loop
 store-ready-requires c κs =
@@ -141,7 +142,7 @@ loop-again c =
     (both (ap not (sym (met .meets .ensures)) ∙ freed .before .before .if1 .taken)
     (free-now (a .table .now) (a .line) (a .work .now) (at .loop .inv) (own l) (freed .is-free .ensures)
     (stored .before .before .if2 .taken)))
-    (at .before .before .pre .1)
+    (at .before .before .pre .2)
     (stored .store-ready .ensures)
     (c .union .ensures ∙ ap (bitOr (at .loop .placed)) (c .before .single .ensures))
 

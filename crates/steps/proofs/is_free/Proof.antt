@@ -7,6 +7,7 @@ use lib.Bits.{bitAnd}
 use Rattle.sets.specs.Sets.{most}
 use Rattle.instance.specs.Table.{actsOf, componentAt}
 use Rattle.profile.specs.Work.{freeAt}
+use Rattle.profile.proofs.Room.{others}
 use Rattle.steps.proofs.Loops.{own-below}
 use Rattle.steps.proofs.Ready.{running-among, free-tight, free-roomy}
 use Rattle.steps.proofs.is_free.Statement.{statement}
@@ -17,7 +18,7 @@ use Rattle.sets.proofs.common.Reads as common-reads
 use Rattle.sets.proofs.contains.Reads as contains-reads
 use Rattle.sets.proofs.lowest.Reads as lowest-reads
 use Rattle.profile.proofs.free_of.Reads as free-of-reads
-use Rattle.profile.proofs.has_room.Reads as has-room-reads
+use Rattle.profile.proofs.has_left.Reads as has-left-reads
 use Rattle.steps.proofs.running.Reads as running-reads
 
 abbrev Entry : Type 0
@@ -33,8 +34,8 @@ Entry =
       running-reads.Learnt,
       common-reads.Asked,
       common-reads.Learnt,
-      has-room-reads.Asked,
-      has-room-reads.Learnt,
+      has-left-reads.Asked,
+      has-left-reads.Learnt,
     )
     reads.Pre
     reads.Post
@@ -84,26 +85,26 @@ running-requires c κs = search needs
 common-requires : tie.Need-common-requires
 common-requires c κs = search needs
 
-has-room-requires : tie.Need-has-room-requires
-has-room-requires c κs =
+has-left-requires : tie.Need-has-left-requires
+has-left-requires c κs =
     let s = c .before .before .before .before .before .before in
-    let l = s .args .line in (
-      rw (c .common .ensures, c .before .running .ensures)
-          (running-among (s .args .table .now) l (s .args .work .now) (s .pre .0)
-          (componentAt (s .args .table .now) (s .args .i)) (s .args .i) (s .pre .2)),
-      omega (arith, s .pre .1),
-    )
+    let t = s .args .table .now in
+    let w = s .args .work .now in
+    let i = s .args .i in
+    rw (c .common .ensures, c .before .running .ensures)
+    (others t w _ i (running-among t (s .args .line) w (s .pre .0) _ i (s .pre .2)))
 
 returns-2 : tie.Need-returns-2
 returns-2 c =
     let shared = c .before in
     let runs = shared .before in
     let held = runs .before .before in
-    let a = held .before .before .before .args in
+    let s = held .before .before .before in
+    let a = s .args in
     free-roomy (a .table .now) (a .work .now) (a .line) (a .i) (held .contains .ensures) (runs .before .if1 .left)
     (shared .common .ensures
     ∙ ap (λ (x : ℕ). bitAnd x (componentAt (a .table .now) (a .i))) (runs .running .ensures))
-    (c .has-room .ensures)
+    (s .pre .0) (s .pre .1) (c .has-left .ensures)
 
 pub is-free-spec : {M : Type 1} → statement M
 is-free-spec =
@@ -119,5 +120,5 @@ is-free-spec =
     returns
     running-requires
     common-requires
-    has-room-requires
+    has-left-requires
     returns-2)

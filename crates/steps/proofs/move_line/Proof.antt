@@ -4,24 +4,16 @@ use mathlib.Core.Path.{refl, sym, ap, _∙_}
 use Prim.Native.Nat.{ℕ}
 use borrow.Author.Needs.{needs}
 use Rattle.sets.specs.Sets.{has}
-use Rattle.steps.proofs.Loops.{minus-low, common-low, common-parts}
+use Rattle.steps.proofs.Loops.{common-low, common-parts}
 use Rattle.steps.proofs.move_line.Statement.{statement}
 use Rattle.steps.proofs.move_line.Tie as tie
-
-running-requires : tie.Need-running-requires
-running-requires c κs = search needs
-
-first-end-requires : tie.Need-first-end-requires
-first-end-requires c κs =
-    let a = c .before .args in
-    omega (arith, c .running .ensures, minus-low (a .line .term) (a .line .left) (c .before .pre .term-low))
 
 loose-requires : tie.Need-loose-requires
 loose-requires c κs = search needs
 
 first-stop-requires : tie.Need-first-stop-requires
 first-stop-requires c κs =
-    let at = c .before .before .before in
+    let at = c .before in
     let l = at .args .line in (
       at .pre .laid,
       at .pre .timed,
@@ -33,17 +25,14 @@ first-stop-requires c κs =
 
 returns : tie.Need-returns
 returns c =
-    let first = c .before .before in
     record {
-      first = first .first-end .result;
-      running = rw (first .before .running .ensures) at (first .first-end .ensures);
       stop = rw (c .before .loose .ensures) at (c .first-stop .ensures);
       placed = refl;
       left = refl;
       term = refl;
       passed = refl;
+      live = refl;
     }
 
 pub move-line-spec : {M : Type 1} → statement M
-move-line-spec =
-    tie.close (tie.spec running-requires first-end-requires loose-requires first-stop-requires returns)
+move-line-spec = tie.close (tie.spec loose-requires first-stop-requires returns)

@@ -1,6 +1,7 @@
 -- `shift` meets its contract. The loop's invariant: what has been looked at stands at its next fit among the frozen
 -- ones, and has been passed where it stands ahead.
 use native.Mathlib.Omega.{arith}
+use mathlib.Core.Logic.{inl, inr, ⊎-elim}
 use mathlib.Core.Path.{ap, _∙_}
 use Prim.Native.Nat.{ℕ, _+_, _-_, _<_}
 use borrow.Author.Needs.{needs}
@@ -9,8 +10,9 @@ use Rattle.sets.specs.Sets.{most}
 use Rattle.sets.proofs.Turns.{Turn, turned}
 use Rattle.instance.specs.Table.{componentAt, durationAt}
 use Rattle.profile.specs.Work.{readyFrom}
-use Rattle.steps.proofs.Ready.{frozen-below, Shifting, Parts, shifting, shift-among, shift-passed}
-use Rattle.steps.proofs.Ready.{shift-behind, shifted-all}
+use Rattle.steps.proofs.Ready.{frozen-below, settled, Shifting, Fitted, Parts, live-low, shifting}
+use Rattle.steps.proofs.Ready.{shift-late, fitted, fits-still, shift-passed, shift-behind, shifted-all}
+use Rattle.steps.specs.declared.Line.{Line}
 use Rattle.steps.proofs.shift.Statement.{statement}
 use Rattle.steps.proofs.shift.Tie as tie
 use Rattle.steps.proofs.shift.Reads as reads
@@ -24,24 +26,22 @@ use Rattle.sets.proofs.lowest.Reads as lowest-reads
 use Rattle.sets.proofs.minus.Reads as minus-reads
 use Rattle.sets.proofs.single.Reads as single-reads
 use Rattle.sets.proofs.union.Reads as union-reads
-use Rattle.steps.proofs.frozen.Reads as frozen-reads
 use Rattle.steps.proofs.is_ahead.Reads as is-ahead-reads
 use Rattle.steps.proofs.loose.Reads as loose-reads
-use Rattle.profile.proofs.next_fit.Reads as next-fit-reads
+use Rattle.profile.proofs.fit_beside.Reads as fit-beside-reads
 
 abbrev Inv-loop : tie.InvT-loop
-Inv-loop table work₀ j component start among passed₀ rest₀ work passed rest =
-    Shifting table work₀ among start j passed₀ rest₀ work passed rest
+Inv-loop table work₀ j component end start live passed₀ rest₀ work passed rest =
+    (l : Line) → Parts table l j work₀ end start live passed₀ rest₀
+    → Shifting table l j work₀ passed₀ rest₀ work passed rest
 
 abbrev μ-loop : tie.MeasureT-loop
-μ-loop table work₀ j component start among passed₀ rest₀ work passed rest = rest
+μ-loop table work₀ j component end start live passed₀ rest₀ work passed rest = rest
 
 abbrev calls : lts.Claims
 calls = (
   end-of-reads.Asked,
   end-of-reads.Learnt,
-  frozen-reads.Asked,
-  frozen-reads.Learnt,
   common-reads.Asked,
   common-reads.Learnt,
   minus-reads.Asked,
@@ -54,8 +54,8 @@ calls = (
   after-lowest-reads.Learnt,
   ready-of-reads.Asked,
   ready-of-reads.Learnt,
-  next-fit-reads.Asked,
-  next-fit-reads.Learnt,
+  fit-beside-reads.Asked,
+  fit-beside-reads.Learnt,
   store-ready-reads.Asked,
   store-ready-reads.Learnt,
   is-ahead-reads.Asked,
@@ -77,26 +77,32 @@ abbrev Made : Type 0
 Made = lts.After-common2 calls reads.Pre reads.Post Inv-loop μ-loop
 
 abbrev entry : Made → Entry
-entry m = m .before .before .before .before .before .before .before .before .before
+entry m = m .before .before .before .before .before .before .before .before
 
 abbrev component : Made → ℕ
 component m = componentAt (entry m .args .table .now) (entry m .args .j)
 
-parts : (m : Made)
-    → Parts (entry m .args .table .now) (entry m .args .line) (entry m .args .work .now) (entry m .args .j)
-    (m .before .before .before .common .result)
-    (m .before .before .before .before .before .before .end-of .result
+abbrev PartsOf : Made → Line → Type 0
+PartsOf m l =
+    Parts (entry m .args .table .now) l (entry m .args .j) (entry m .args .work .now)
+    (m .before .before .before .before .before .end-of .result)
+    (m .before .before .before .before .before .end-of .result
     - durationAt (entry m .args .table .now) (entry m .args .j))
+    (m .before .before .before .common .result)
     (m .before .before .minus .result)
     (m .common2 .result)
+
+parts : (m : Made) → PartsOf m (entry m .args .line)
 parts m =
     let shared = m .before .before .before in
     record {
-      settled =
-          shared .common .ensures ∙ ap (λ (x : ℕ). bitAnd x (component m)) (shared .before .frozen .ensures);
+      sets = entry m .pre .0;
+      last = entry m .pre .2;
+      lives = shared .common .ensures;
+      ended = shared .before .before .end-of .ensures;
       begun =
           ap (λ (x : ℕ). x - durationAt (entry m .args .table .now) (entry m .args .j))
-          (shared .before .before .before .end-of .ensures);
+          (shared .before .before .end-of .ensures);
       outside = m .before .before .minus .ensures;
       others = m .common2 .ensures ∙ ap (λ (x : ℕ). bitAnd x (component m)) (m .before .loose .ensures);
     }
@@ -105,14 +111,48 @@ parts m =
 abbrev Taken : Type 0
 Taken = lts.After-after-lowest calls reads.Pre reads.Post Inv-loop μ-loop
 
+abbrev made : Taken → Made
+made l = l .before .before .before .before
+
 turn : (l : Taken)
     → Turn (l .before .before .before .loop .rest) (l .after-lowest .result) (l .before .lowest .result)
 turn l =
     turned (l .before .before .before .loop .rest) (l .after-lowest .result) (l .before .lowest .result)
-    (l .before .before .before .loop .inv .marks .rest-low)
+    (l .before .before .before .loop .inv (entry (made l) .args .line) (parts (made l)) .marks .rest-low)
     (l .before .before .loop-test .taken)
     (l .before .lowest .ensures)
     (l .after-lowest .ensures)
+
+-- It has been shifted, or fits where it stands.
+abbrev Joined : Type 0
+Joined = lts.Joined1-2 calls reads.Pre reads.Post Inv-loop μ-loop
+
+moved : (c : Joined) (l : Line) → PartsOf (made (c .before .before .before)) l
+    → Fitted (entry (made (c .before .before .before)) .args .table .now) l
+    (entry (made (c .before .before .before)) .args .j)
+    (entry (made (c .before .before .before)) .args .work .now)
+    (c .before .before .before .before .before .before .loop .work)
+    (c .if1 .work)
+    (c .before .before .before .before .lowest .result)
+moved c l p =
+    let read = c .before in
+    let taken = read .before .before in
+    let k = taken .before .lowest .result in
+    let so-far = taken .before .before .before .loop .inv l p in
+    let x = read .ready-of .result in
+    let is = read .ready-of .ensures in
+    let there = turn taken .there in
+    ⊎-elim
+    (λ q.
+    fitted p so-far k there (c .if1 .work) x (q .4 .result) is
+    (q .4 .ensures (settled (entry (made taken) .args .table .now) l (entry (made taken) .args .j))
+    (shift-late p so-far k there x is (q .2 .taken)))
+    (q .7 ∙ q .6 .ensures))
+    (λ q.
+    fits-still p so-far k there (c .if1 .work) x is
+    (⊎-elim (λ y. inr (y .2 .left)) (λ y. inl (y .left)) (q .0 .came))
+    (q .1))
+    (c .if1 .came)
 
 add-component : tie.Need-add-component Inv-loop μ-loop
 add-component c = record { fits = omega (arith, below c) }
@@ -137,9 +177,6 @@ sub-start c =
     let s = c .before .before .before .before in
     omega (arith, c .before .end-of .ensures, s .pre .0 .ran (s .args .j) (s .pre .1))
 
-frozen-requires : tie.Need-frozen-requires Inv-loop μ-loop
-frozen-requires c κs = search needs
-
 common-requires : tie.Need-common-requires Inv-loop μ-loop
 common-requires c κs = search needs
 
@@ -153,7 +190,7 @@ common-requires-2 : tie.Need-common-requires-2 Inv-loop μ-loop
 common-requires-2 c κs = search needs
 
 loop-holds : tie.Need-loop-holds Inv-loop μ-loop
-loop-holds c = shifting (parts c) (entry c .pre .0)
+loop-holds c = λ l p. shifting p
 
 lowest-requires : tie.Need-lowest-requires Inv-loop μ-loop
 lowest-requires c κs = search needs
@@ -164,17 +201,52 @@ after-lowest-requires c κs = search needs
 ready-of-requires : tie.Need-ready-of-requires Inv-loop μ-loop
 ready-of-requires c κs = omega (arith, turn (c .before) .below)
 
-next-fit-requires : tie.Need-next-fit-requires Inv-loop μ-loop
-next-fit-requires c κs =
-    let l = c .before .before in
-    let at = l .before .before .before in
-    let k = l .before .lowest .result in (
-      shift-among (at .loop .inv) k (turn l .there),
-      omega (arith, c .ready-of .ensures, at .loop .inv .timed .times (readyFrom + k)),
+mul-if2 : tie.Need-mul-if2 Inv-loop μ-loop
+mul-if2 c = record { fits = omega (arith, turn (c .before .before .before) .below) }
+
+element-copy-out-if2 : tie.Need-element-copy-out-if2 Inv-loop μ-loop
+element-copy-out-if2 c = omega (arith, turn (c .before .before .before) .below)
+
+add-if2 : tie.Need-add-if2 Inv-loop μ-loop
+add-if2 c =
+    let read = c .before .before in
+    let taken = read .before .before in
+    let s = entry (made taken) in
+    let k = taken .before .lowest .result in
+    let so-far = taken .before .before .before .loop .inv (s .args .line) (parts (made taken)) in
+    record {
+      fits =
+          omega (
+            arith,
+            read .ready-of .ensures,
+            so-far .timed .times (readyFrom + k),
+            s .pre .0 .laid .short k (turn taken .below),
+          );
+    }
+
+fit-beside-requires : tie.Need-fit-beside-requires Inv-loop μ-loop
+fit-beside-requires c κs =
+    let test = c .before in
+    let read = test .before .before .before in
+    let taken = read .before .before in
+    let a = entry (made taken) .args in
+    let k = taken .before .lowest .result in
+    let p = parts (made taken) in
+    let so-far = taken .before .before .before .loop .inv (a .line) p in (
+      live-low p,
+      omega (arith, read .ready-of .ensures, so-far .timed .times (readyFrom + k)),
+      (
+        settled (a .table .now) (a .line) (a .j),
+        shift-late p so-far k (turn taken .there) (read .ready-of .result) (read .ready-of .ensures) (test .if2 .taken),
+      ),
     )
 
 store-ready-requires : tie.Need-store-ready-requires Inv-loop μ-loop
-store-ready-requires c κs = omega (arith, turn (c .before .before .before .before) .below)
+store-ready-requires c κs =
+    omega (arith, turn (c .before .before .before .before .before .before .before .before) .below)
+
+ready-of-requires-2 : tie.Need-ready-of-requires-2 Inv-loop μ-loop
+ready-of-requires-2 c κs = omega (arith, turn (c .before .before .before .before) .below)
 
 is-ahead-requires : tie.Need-is-ahead-requires Inv-loop μ-loop
 is-ahead-requires c κs = search needs
@@ -193,16 +265,14 @@ loop-again : tie.Need-loop-again Inv-loop μ-loop
 loop-again c =
     let single = c .before in
     let told = single .before .before in
-    let stored = told .before in
-    let fits = stored .before .before in
-    let l = fits .before .before .before in
-    let at = l .before .before .before in
-    shift-passed (at .loop .inv) (turn l) (stored .store-ready .last .0) (fits .next-fit .result)
-    (rw (fits .before .ready-of .ensures) at (fits .next-fit .ensures))
-    (stored .store-ready .ensures)
-    (c .union .result)
+    let read = told .before in
+    let joined = read .before .before in
+    let taken = joined .before .before .before in
+    let at = taken .before .before .before in
+    λ l p.
+    shift-passed p (at .loop .inv l p) (turn taken) (moved joined l p) (c .union .result) (read .ready-of2 .ensures)
     (told .is-ahead .ensures)
-    (single .before .if1 .taken)
+    (single .before .if3 .taken)
     (c .union .ensures ∙ ap (bitOr (at .loop .passed)) (single .single .ensures))
 
 loop-less-2 : tie.Need-loop-less-2 Inv-loop μ-loop
@@ -211,17 +281,20 @@ loop-less-2 c = omega (arith, turn (c .before .before .before .before .before .b
 loop-again-2 : tie.Need-loop-again-2 Inv-loop μ-loop
 loop-again-2 c =
     let told = c .before in
-    let stored = told .before in
-    let fits = stored .before .before in
-    let l = fits .before .before .before in
-    shift-behind (l .before .before .before .loop .inv) (turn l) (stored .store-ready .last .0) (fits .next-fit .result)
-    (rw (fits .before .ready-of .ensures) at (fits .next-fit .ensures))
-    (stored .store-ready .ensures)
+    let read = told .before in
+    let joined = read .before .before in
+    let taken = joined .before .before .before in
+    λ l p.
+    shift-behind p (taken .before .before .before .loop .inv l p) (turn taken) (moved joined l p)
+    (read .ready-of2 .ensures)
     (told .is-ahead .ensures)
-    (c .if1 .left)
+    (c .if3 .left)
 
 returns : tie.Need-returns Inv-loop μ-loop
-returns c = shifted-all (parts (c .before .before)) (c .loop-test .left) (c .before .loop .inv)
+returns c =
+    let m = c .before .before in
+    let p = parts m in
+    shifted-all p (c .before .loop .inv (entry m .args .line) p) (c .loop-test .left)
 
 pub shift-spec : {M : Type 1} → statement M
 shift-spec =
@@ -236,7 +309,6 @@ shift-spec =
     mul-start
     element-copy-out-start
     sub-start
-    frozen-requires
     common-requires
     minus-requires
     loose-requires
@@ -245,8 +317,12 @@ shift-spec =
     lowest-requires
     after-lowest-requires
     ready-of-requires
-    next-fit-requires
+    mul-if2
+    element-copy-out-if2
+    add-if2
+    fit-beside-requires
     store-ready-requires
+    ready-of-requires-2
     is-ahead-requires
     single-requires
     union-requires

@@ -1,7 +1,8 @@
 -- `leave` meets its contract.
 use native.Mathlib.Omega.{arith}
 use Rattle.tally.specs.Seen.{settingIn}
-use Rattle.candidates.specs.Tables.{problemIn}
+use Rattle.instance.specs.Table.{projectIn}
+use Rattle.soonest.specs.Row.{rowIn}
 use Rattle.tally.proofs.Rows.{seen-counted, seen-enough}
 use borrow.Author.Needs.{needs}
 use Rattle.tally.proofs.leave.Statement.{statement}
@@ -22,12 +23,12 @@ element-copy-out-list c = search needs
 list-requires : tie.Need-list-requires
 list-requires c κs =
     let start = c .before .before .before .before .before .before in
-    (start .pre .ended, start .pre .fit, omega (arith, start .pre .fit .cap, c .before .before .if1 .taken))
+    (start .pre .whole, start .pre .ended, omega (arith, start .pre .whole .cap, c .before .before .if1 .taken))
 
 rank-requires : tie.Need-rank-requires
 rank-requires c κs =
     let start = c .before .before .before .before .before .before .before .before .before .before in
-    (start .pre, omega (arith, start .pre .fit .cap, c .before .before .before .before .before .before .if1 .taken))
+    (start .pre, omega (arith, start .pre .whole .cap, c .before .before .before .before .before .before .if1 .taken))
 
 same-length : tie.Need-same-length
 same-length c = search needs
@@ -37,7 +38,7 @@ returns c =
     let a = c .before .before .before .before .before .before .before .before .before .before .before .args in
     let t = a .table .now in (
       c .rank .ensures .0,
-      seen-counted (problemIn t) (settingIn t) (a .work .now) (a .cells .now) (c .rank .last .1 .1 .1 .0)
+      seen-counted (projectIn t) (settingIn t) (rowIn t (a .work .now)) (a .cells .now) (c .rank .last .1 .1 .1 .0)
           (a .area .now)
           (c .before .before .before .before .list .last .1 .1 .1 .0)
           (c .before .before .before .before .before .before .before .if1 .taken) (c .rank .ensures .1)
@@ -50,7 +51,7 @@ returns-2 c =
     let a = start .args in
     let t = a .table .now in (
       start .pre .tally,
-      seen-enough (problemIn t) (settingIn t) (a .work .now) (a .cells .now) (a .area .now)
+      seen-enough (projectIn t) (settingIn t) (rowIn t (a .work .now)) (a .cells .now) (a .area .now)
           (c .if1 .left),
     )
 

@@ -1,10 +1,9 @@
 -- `list` meets its contract: the part of the area that was lent comes back with the row in front.
 use Prim.Native.Nat.{_+_, _*_}
 use native.Mathlib.Omega.{arith}
-use Rattle.network.specs.Network.{actsOf}
-use Rattle.tally.specs.Seen.{settingIn, rowIn}
-use Rattle.candidates.specs.Tables.{problemIn}
-use Rattle.tally.proofs.Rows.{row-placed, row-length, row-at, placed-not}
+use Rattle.instance.specs.Table.{actsOf}
+use Rattle.tally.specs.Seen.{lineIn}
+use Rattle.tally.proofs.Rows.{row-placed, line-length, next-at, placed-not}
 use borrow.Author.Needs.{needs}
 use Rattle.tally.proofs.list.Statement.{statement}
 use Rattle.tally.proofs.list.Tie as tie
@@ -21,17 +20,20 @@ add-at c = search needs
 mul-at : tie.Need-mul-at
 mul-at c =
     let start = c .before .before in
-    omega (arith, row-at (start .args .count) (actsOf (start .args .table .now)) (omega arith) (start .pre .1 .acts))
+    let a = start .args in
+    omega (arith, next-at (a .count) (actsOf (a .table .now)) (omega arith) (start .pre .0 .laid .acts))
 
 add-if1 : tie.Need-add-if1
 add-if1 c =
     let start = c .before .before in
-    omega (arith, row-at (start .args .count) (actsOf (start .args .table .now)) (omega arith) (start .pre .1 .acts))
+    let a = start .args in
+    omega (arith, next-at (a .count) (actsOf (a .table .now)) (omega arith) (start .pre .0 .laid .acts))
 
 add-if1-2 : tie.Need-add-if1-2
 add-if1-2 c =
     let start = c .before .before in
-    omega (arith, row-at (start .args .count) (actsOf (start .args .table .now)) (omega arith) (start .pre .1 .acts))
+    let a = start .args in
+    omega (arith, next-at (a .count) (actsOf (a .table .now)) (omega arith) (start .pre .0 .laid .acts))
 
 mul-write-row : tie.Need-mul-write-row
 mul-write-row c = search needs
@@ -53,20 +55,22 @@ same-length c = search needs
 
 returns : tie.Need-returns
 returns c =
-    let a = c .before .before .before .before .before .before .before .args in
+    let s = c .before .before .before .before .before .before .before in
+    let a = s .args in
     let t = a .table .now in
-    row-placed (a .area .now) (rowIn t (a .work .now)) (c .before .before .write-row .last .0)
+    row-placed (a .area .now) (lineIn t (a .work .now)) (c .before .before .write-row .last .0)
     (a .count * (actsOf t + 1)) (actsOf t + 1)
     (omega (arith, c .before .before .before .before .if1 .taken))
-    (row-length (problemIn t) (settingIn t) (a .work .now))
+    (line-length t (a .work .now) (s .pre .0) (s .pre .1))
     (c .before .before .write-row .ensures)
 
 returns-2 : tie.Need-returns-2
 returns-2 c =
-    let a = c .before .before .before .args in
+    let s = c .before .before .before in
+    let a = s .args in
     let t = a .table .now in
-    placed-not (a .area .now) (rowIn t (a .work .now)) (a .count * (actsOf t + 1))
-    (omega (arith, row-length (problemIn t) (settingIn t) (a .work .now), c .if1 .left))
+    placed-not (a .area .now) (lineIn t (a .work .now)) (a .count * (actsOf t + 1))
+    (omega (arith, line-length t (a .work .now) (s .pre .0) (s .pre .1), c .if1 .left))
 
 pub list-spec : {M : Type 1} → statement M
 list-spec =

@@ -2,10 +2,10 @@
 use native.Mathlib.Omega.{arith}
 use mathlib.Core.Path.{sym, _∙_}
 use lib.ListN.{set}
-use Rattle.network.specs.Network.{variantOf}
+use Rattle.instance.specs.Table.{variantOf, projectIn}
+use Rattle.soonest.specs.Row.{rowIn}
 use Rattle.tally.specs.Seen.{settingIn, bestEndCell, bestVariantCell}
-use Rattle.candidates.specs.Tables.{problemIn}
-use Rattle.tally.proofs.Rows.{rank-before, rank-after, tally-set, more, more-tally}
+use Rattle.tally.proofs.Rows.{last-is, rank-before, rank-after, tally-set, more, more-tally}
 use borrow.Author.Needs.{needs}
 use Rattle.tally.proofs.rank.Statement.{statement}
 use Rattle.tally.proofs.rank.Tie as tie
@@ -24,8 +24,8 @@ is-before-requires c κs =
     let start = c .before .before in
     let leaf = start .pre .0 in
     record {
+      whole = leaf .whole;
       ended = leaf .ended;
-      fit = leaf .fit;
       tally = more-tally (start .args .cells .now) (leaf .tally);
       last = leaf .last;
     }
@@ -47,6 +47,7 @@ keep-requires c κs =
     let start = c .before .before .before .before .before .before in
     let a = start .args in
     let cells = more (a .cells .now) in (
+      start .pre .0 .whole,
       start .pre .0 .ended,
       tally-set (set cells bestEndCell (a .latest)) bestVariantCell (variantOf (a .table .now)) (omega arith)
           (tally-set cells bestEndCell (a .latest) (omega arith) (more-tally (a .cells .now) (start .pre .0 .tally))),
@@ -55,11 +56,14 @@ keep-requires c κs =
 returns : tie.Need-returns
 returns c =
     let start = c .before .before .before .before .before .before .before in
+    let leaf = start .pre .0 in
     let a = start .args in
     let t = a .table .now in (
       c .keep .ensures .0,
-      rank-before (problemIn t) (settingIn t) (a .work .now) (a .cells .now) (c .keep .last .1 .1 .0) (a .latest)
-          (start .pre .0 .last) (start .pre .0 .tally)
+      rank-before (projectIn t) (settingIn t) (rowIn t (a .work .now)) (a .cells .now) (c .keep .last .1 .1 .0)
+          (a .latest)
+          (leaf .last ∙ last-is t (a .work .now) (leaf .whole) (leaf .ended))
+          (leaf .tally)
           (sym (c .before .before .before .before .is-before .ensures) ∙ c .before .before .before .if1 .taken)
           (c .keep .ensures .1),
     )
@@ -70,7 +74,7 @@ returns-2 c =
     let a = start .args in
     let t = a .table .now in (
       more-tally (a .cells .now) (start .pre .0 .tally),
-      rank-after (problemIn t) (settingIn t) (a .work .now) (a .cells .now) (start .pre .0 .tally)
+      rank-after (projectIn t) (settingIn t) (rowIn t (a .work .now)) (a .cells .now) (start .pre .0 .tally)
           (sym (c .before .is-before .ensures) ∙ c .if1 .left),
     )
 

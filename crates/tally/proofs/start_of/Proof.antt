@@ -1,6 +1,6 @@
 -- `start_of` meets its contract.
 use borrow.Author.Tests.{eq-eqb, ne-eqb}
-use Rattle.scan.specs.Model.{startOf}
+use Rattle.tally.specs.Leaf.{startOf}
 use Rattle.tally.proofs.start_of.Statement.{statement}
 use Rattle.tally.proofs.start_of.Tie as tie
 

@@ -11,7 +11,7 @@ pick-requires c κs =
 
 returns : tie.Need-returns
 returns c = λ t h.
-    let b = c .before .before .before .before in
+    let b = c .before .before .before .before .before in
     let a = b .before .before .before .before .before .args in
     nodes-picked (a .campaign) t (a .v) h (b .pick .result) (b .pick .ensures t (h .plan .valid .term))
 

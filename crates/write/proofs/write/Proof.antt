@@ -39,7 +39,7 @@ write-plan-requires c κs =
     let w = c .before in
     let (t, is, h) = accepted (w .before .before) in
     let made = w .variant-of .ensures t (has-variant h _ (w .before .if1 .taken)) in
-    (made .acts, made .nodes)
+    (made .resources, made .acts, made .nodes)
 
 enum-known-verdict : tie.Need-enum-known-verdict
 enum-known-verdict c = search needs

@@ -1,42 +1,62 @@
--- The lines of the activities, one a turn; their form has no letter.
-use Prim.Native.Nat.{_-_}
-use mathlib.Core.Path.{refl}
+-- The lines of the activities, one a turn.
+use Prim.Native.Nat.{_-_, _*_}
 use native.Mathlib.Omega.{arith}
-use Rattle.plan.specs.Limits.{actForm}
-use Rattle.writer.proofs.Laws.{letters-fit}
-use Rattle.writer.proofs.Lines.{Left, act-lined, lines-none, lines-then, lines-end}
+use Rattle.plan.specs.Limits.{mostResources}
+use Rattle.writer.proofs.Lines.{Left, left-all, left-then, left-none}
+use Rattle.writer.proofs.Pieces.{part-length, actsLeft, acts-next, acts-end, act-short}
 use Rattle.writer.proofs.put_activities.Statement.{statement}
 use Rattle.writer.proofs.put_activities.Tie as tie
 
 abbrev Inv-loop : tie.InvT-loop
-Inv-loop area₀ at acts resource duration next₀ i₀ form area next i =
-    Left act-lined acts resource duration area₀ at area next i
+Inv-loop area₀ at edition resources acts duration units next₀ i₀ area next i =
+    Left 190 acts (actsLeft edition resources acts duration units) area₀ at area next i
 
 abbrev μ-loop : tie.MeasureT-loop
-μ-loop area₀ at acts resource duration next₀ i₀ form area next i = acts - i
+μ-loop area₀ at edition resources acts duration units next₀ i₀ area next i = acts - i
 
 loop-holds : tie.Need-loop-holds Inv-loop μ-loop
-loop-holds c =
-    let sizes = c .before .good .1 .1 in
-    lines-none (omega (arith, sizes .0 .1 .0 .1)) (omega (arith, sizes .1 .0 .1 .0 .1))
+loop-holds c = left-all
 
-put-line-requires : tie.Need-put-line-requires Inv-loop μ-loop
-put-line-requires c κs = (omega arith, omega arith, letters-fit actForm refl _ _)
+part-put-activity-end : tie.Need-part-put-activity-end Inv-loop μ-loop
+part-put-activity-end c = omega arith
+
+put-activity-requires : tie.Need-put-activity-requires Inv-loop μ-loop
+put-activity-requires c κs =
+    let at = c .before .before .before .before .loop in
+    let start = c .before .before .before .before .before .before in
+    omega (
+      arith,
+      at .inv .near,
+      part-length (start .args .t6) (at .i * mostResources) (start .args .resources) (omega arith),
+    )
 
 loop-again : tie.Need-loop-again Inv-loop μ-loop
 loop-again c =
     let called = c .before .before in
-    let at-loop = called .before .before .before .before in
-    lines-then (at-loop .loop .inv) (omega arith) (called .put-line .kept .0) (called .put-line .ensures)
+    let at = c .before .before .before .before .before .before .before .loop in
+    let start = c .before .before .before .before .before .before .before .before .before in
+    let r = start .args .resources in
+    left-then (at .inv) (omega arith)
+    (acts-next (start .args .edition) r (start .args .acts) (start .args .t5) (start .args .t6) (omega arith) (at .i)
+    (omega arith) (omega arith))
+    (act-short (start .args .edition) _
+    (omega (arith, part-length (start .args .t6) (at .i * mostResources) r (omega arith))) _)
+    (called .put-activity .kept .0) (called .put-activity .ensures)
 
 same-length : tie.Need-same-length Inv-loop μ-loop
 same-length c = c .before .loop .inv .same
 
 returns : tie.Need-returns Inv-loop μ-loop
-returns c = lines-end (c .before .loop .inv) (omega arith)
+returns c =
+    let at = c .before .loop in
+    let start = c .before .before .before in
+    left-none (at .inv)
+    (acts-end (start .args .edition) (start .args .resources) (start .args .acts) (start .args .t5) (start .args .t6)
+    (omega arith) (at .i) (omega arith))
 
 pub put-activities-spec : {M : Type 1} → statement M
 put-activities-spec =
     tie.close
     (tie.spec Inv-loop μ-loop loop-holds (λ c. omega arith) (λ c. omega arith) (λ c. omega arith) (λ c. omega arith)
-    (λ c. omega arith) put-line-requires (λ c. omega arith) (λ c. omega arith) loop-again same-length returns)
+    (λ c. omega arith) (λ c. omega arith) part-put-activity-end put-activity-requires (λ c. omega arith)
+    (λ c. omega arith) loop-again same-length returns)

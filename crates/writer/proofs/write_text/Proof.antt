@@ -11,7 +11,7 @@ same-length : tie.Need-same-length
 same-length c = search needs
 
 returns : tie.Need-returns
-returns c = wrote-whole (c .before .before .put-text .ensures) (c .before .before .before .before .before .pre .2)
+returns c = wrote-whole (c .before .before .put-text .ensures) (c .before .before .before .before .before .pre .3)
 
 pub write-text-spec : {M : Type 1} → statement M
 write-text-spec = tie.close (tie.spec put-text-requires same-length returns)

@@ -1,4 +1,4 @@
-/* The dot test of the paper by each call, from C. */
+/* The dot test of the paper by each call, and a plan of edition 2, from C. */
 #include "vialbluff.h"
 
 #include <assert.h>
@@ -24,6 +24,33 @@ static const uint32_t ROWS[] = {
 
 static int is(const uint64_t out[4], uint64_t a, uint64_t b, uint64_t c, uint64_t d) {
   return out[0] == a && out[1] == b && out[2] == c && out[3] == d;
+}
+
+/* A job that needs both arms, and two that need one each. */
+static const char ARMS[] =
+    "plan=2\nres=1\ncap=2\nacts=3\nact=3,2\nact=2,1\nact=4,1\nnodes=4\nnode=p,3\nnode=a,0\nnode=a,1\nnode=a,2\n";
+
+static const uint32_t ARM_ROWS[] = {0, 0, 3, 3, 0, 2, 0, 5, 0, 4, 0, 0};
+
+static void call_arms(void) {
+  uint8_t file[sizeof ARMS - 1], text[sizeof file];
+  uint32_t starts[VIALBLUFF_PLACES], area[sizeof ARM_ROWS / sizeof *ARM_ROWS];
+  uint64_t out[4];
+  memcpy(file, ARMS, sizeof file);
+  vialbluff_write(file, sizeof file, 0, text, sizeof text, out);
+  assert(is(out, 0, sizeof file, 0, 0) && memcmp(text, file, sizeof file) == 0);
+  vialbluff_count(file, sizeof file, 3, out);
+  assert(is(out, 0, 3, 0, 0));
+  vialbluff_list(file, sizeof file, 3, area, sizeof area / sizeof *area, out);
+  assert(is(out, 0, 3, 0, 0) && memcmp(area, ARM_ROWS, sizeof area) == 0);
+  vialbluff_best(file, sizeof file, 3, starts, out);
+  assert(is(out, 0, 0, 7, 3) && starts[0] == 0 && starts[1] == 3 && starts[2] == 3 && starts[3] == ABSENT);
+  starts[1] = 2;
+  vialbluff_check(file, sizeof file, 0, starts, out);
+  assert(is(out, 0, 0, 0, 0));
+  file[strlen("plan=2\nres=1\ncap=")] = '1';
+  vialbluff_read(file, sizeof file, out);
+  assert(is(out, 11, 5, 0, 0));
 }
 
 int main(void) {
@@ -64,5 +91,6 @@ int main(void) {
   assert(is(out, 8, 18, 0, 0) && area[0] == untouched);
   vialbluff_list(file, length, 3, area, CELLS, out);
   assert(is(out, 0, 3, 0, 0) && memcmp(area, ROWS, sizeof ROWS) == 0 && area[18] == untouched);
+  call_arms();
   return 0;
 }

@@ -7,7 +7,7 @@
 #include <stdio.h>
 #include <string.h>
 
-enum { JOBS = 6, STEPS = 4, ACTS = JOBS * STEPS, WIDTH = ACTS + 1, DEVICES = 16, STACK = 640 * 1024, BYTES = 983 };
+enum { JOBS = 6, STEPS = 4, ACTS = JOBS * STEPS, WIDTH = ACTS + 1, DEVICES = 16, STACK = 640 * 1024, BYTES = 2175 };
 enum { LONGEST = 20000, DOUBLING = 6, MERGED = 134596, CAP = 150000, CELLS = MERGED * WIDTH };
 enum { CHOICES = ACTS / 2, PAIRS = 9 };
 
@@ -16,6 +16,7 @@ static char merge[BYTES + 1];
 static char nest[BYTES + 1];
 static char choices[BYTES + 1];
 static char orders[BYTES + 1];
+static char arms[BYTES + 1];
 static uint32_t area[CELLS];
 static uint8_t text[BYTES];
 
@@ -79,6 +80,21 @@ static void write_orders(void) {
   }
 }
 
+/* Four sequences side by side, each activity on every device, which has two units: one of each, or both of the first.
+ * More sessions than the cap. */
+static void write_arms(void) {
+  line(arms, "plan=2\nres=%d\n", DEVICES, 0);
+  for (int r = 0; r < DEVICES; r++) line(arms, "cap=2\n", 0, 0);
+  line(arms, "acts=%d\n", ACTS, 0);
+  for (int i = 0; i < ACTS; i++) {
+    line(arms, "act=%d,%d", 1 + i * 5 % 17, 1 + i % 5 / 4);
+    for (int r = 1; r < DEVICES; r++) line(arms, ",1", 0, 0);
+    line(arms, "\n", 0, 0);
+  }
+  line(arms, "nodes=%d\nnode=p,%d\n", 1 + STEPS * (1 + JOBS), STEPS);
+  for (int job = 0; job < STEPS; job++) write_sequence(arms, job * JOBS, (job + 1) * JOBS);
+}
+
 static int stands_before(const uint32_t *a, const uint32_t *b) {
   int i = 0;
   while (i < WIDTH && a[i] == b[i]) i++;
@@ -113,6 +129,7 @@ static void *call_all(void *none) {
   call_each(nest, 1, 1);
   call_each(choices, 1 << CHOICES, 1 << CHOICES);
   call_each(orders, 1 << PAIRS, 1 << PAIRS);
+  call_each(arms, 1, 0);
   return none;
 }
 
@@ -124,6 +141,7 @@ int main(void) {
   write_nest();
   write_choices();
   write_orders();
+  write_arms();
   assert(pthread_attr_init(&attributes) == 0);
   assert(pthread_attr_setstacksize(&attributes, STACK) == 0);
   assert(pthread_create(&thread, &attributes, call_all, NULL) == 0);

@@ -1,7 +1,9 @@
-//! The worked campaigns of the paper.
+//! The worked campaigns of the papers, and every file of `campaigns/`.
 
+use crate::compare::compare;
 use calls::{Answer, Best, Planner, Size, MARK};
 use reference::file::parse;
+use reference::random::Random;
 use reference::{makespan_of, refusal};
 
 /// The bytes of a text whose lines are shown with `/`.
@@ -59,7 +61,7 @@ fn dot_test_rows() {
 #[test]
 fn dot_test_variant_1() {
     let (planner, plan) = (crate::planner(), file(DOT_TEST));
-    let mut area = [0; 983];
+    let mut area = [0; 2175];
     let length = planner.write(&plan, 1, &mut area).unwrap() as usize;
     let text = std::str::from_utf8(&area[..length]).unwrap().trim_end().replace('\n', "/");
     assert_eq!(makespans(&text), [11, 11]);
@@ -298,4 +300,181 @@ fn example_2() {
         /node=s,2/node=p,2/node=a,0/node=a,1/node=a,2/node=s,2/node=a,3/node=a,4/node=a,5/node=s,2/node=a,6/node=a,7";
     assert_eq!(makespans(second), [5, 5, 5, 5, 5, 6, 6, 6, 7, 7, 7, 7]);
     assert_eq!(best(second, 12).unwrap().0.makespan, 5);
+}
+
+const TWO_ARM_BENCH: &str = "plan=2/res=2/cap=2/cap=1/acts=5/act=4,1,0/act=3,1,1/act=2,2,0/act=5,1,0/act=2,0,1/nodes=7\
+    /node=p,4/node=s,2/node=a,0/node=a,2/node=a,1/node=a,3/node=a,4";
+
+/// Two arms and a camera.
+#[test]
+fn two_arm_bench() {
+    let rows = [
+        [0, 0, 0, 4, 6, 3],
+        [0, 0, 0, 8, 3, 3],
+        [0, 0, 2, 5, 7, 0],
+        [0, 0, 2, 9, 4, 0],
+        [0, 0, 4, 7, 0, 0],
+        [0, 0, 6, 4, 6, 0],
+        [0, 0, 7, 5, 0, 0],
+        [0, 3, 0, 7, 0, 3],
+        [0, 5, 2, 9, 0, 0],
+    ];
+    assert_eq!(listed(TWO_ARM_BENCH), rows);
+    counted(TWO_ARM_BENCH, 9);
+    let (found, starts) = best(TWO_ARM_BENCH, 9).unwrap();
+    assert_eq!(found, Best { variant: 0, makespan: 9, count: 9 });
+    assert_eq!(starts[..5], [0, 4, 7, 0, 0]);
+}
+
+/// A plan of edition 2 with some activities side by side: capacities and activities.
+fn side_by_side(capacities: &[u64], activities: &[&str]) -> String {
+    let capacity_lines: String = capacities.iter().map(|capacity| format!("/cap={capacity}")).collect();
+    let activity_lines: String = activities.iter().map(|activity| format!("/act={activity}")).collect();
+    let count = activities.len();
+    let leaves: String = (0..count).map(|i| format!("/node=a,{i}")).collect();
+    let head = format!("plan=2/res={}{capacity_lines}/acts={count}{activity_lines}", capacities.len());
+    format!("{head}/nodes={}/node=p,{count}{leaves}", count + 1)
+}
+
+#[test]
+fn two_arms() {
+    let text = side_by_side(&[2], &["3,1", "2,1", "2,1", "1,1"]);
+    assert_eq!(makespans(&text), [4, 4, 4, 4, 5, 5, 5, 5, 5, 5, 5]);
+    assert_eq!(best(&text, 11).unwrap().1[..4], [0, 0, 2, 3]);
+}
+
+#[test]
+fn arm_and_camera() {
+    let text = side_by_side(&[2, 1], &["2,1,1", "3,0,1", "1,1,0", "2,2,0"]);
+    assert_eq!(listed(&text), [[0, 0, 2, 0, 2], [0, 2, 4, 2, 0], [0, 3, 0, 0, 1], [0, 3, 0, 2, 0]]);
+}
+
+#[test]
+fn both_arms() {
+    let text = side_by_side(&[2], &["3,2", "2,1", "4,1"]);
+    assert_eq!(listed(&text), [[0, 0, 3, 3], [0, 2, 0, 5], [0, 4, 0, 0]]);
+}
+
+#[test]
+fn shared_three_ways() {
+    let text = side_by_side(&[3], &["2,1", "3,1", "1,1", "2,2"]);
+    assert_eq!(makespans(&text), [4, 4, 4, 5, 5, 5, 5]);
+    assert_eq!(best(&text, 7).unwrap().1[..4], [0, 0, 0, 2]);
+}
+
+/// The load of 7 of 2 arms is 4 when rounded up, and no session is shorter.
+#[test]
+fn load_rounded_up() {
+    let text = side_by_side(&[2], &["3,1", "2,1", "2,1"]);
+    assert_eq!(best(&text, 10).unwrap().0.makespan, 4);
+}
+
+/// An activity without a device starts at once, and with no device used nothing waits.
+#[test]
+fn without_device() {
+    let text = side_by_side(&[1], &["2,1", "3,1", "4,0"]);
+    assert_eq!(listed(&text), [[0, 0, 2, 0], [0, 3, 0, 0]]);
+    assert_eq!(listed(&side_by_side(&[1, 15], &["2,0,0", "3,0,0", "4,0,0"])), [[0, 0, 0, 0]]);
+}
+
+#[test]
+fn dot_test_in_edition_2() {
+    let text = DOT_TEST
+        .replace("plan=1/res=3", "plan=2/res=3/cap=1/cap=1/cap=1")
+        .replace("act=0,4", "act=4,1,0,0")
+        .replace("act=1,2", "act=2,0,1,0")
+        .replace("act=1,3", "act=3,0,1,0")
+        .replace("act=2,5", "act=5,0,0,1")
+        .replace("act=1,6", "act=6,0,1,0");
+    assert_eq!(listed(&text), listed(DOT_TEST));
+    assert_eq!(best(&text, 3), best(DOT_TEST, 3));
+}
+
+#[test]
+fn units() {
+    let of =
+        |capacity: &str, act: &str| variants(&format!("plan=2/res=1/cap={capacity}/acts=1/act={act}/nodes=1/node=a,0"));
+    assert_eq!(of("15", "1,15"), Ok(1));
+    assert_eq!(of("1", "1,0"), Ok(1));
+    assert_eq!(of("14", "1,15"), Err(refusal(11, 5)));
+    assert_eq!(of("1", "1,2"), Err(refusal(11, 5)));
+    assert_eq!(of("15", "1,16"), Err(refusal(3, 5)));
+    assert_eq!(of("1", "0,2"), Err(refusal(3, 5)));
+    assert_eq!(of("1", "1,02"), Err(refusal(2, 5)));
+    assert_eq!(of("1", "1"), Err(refusal(2, 5)));
+    assert_eq!(of("1", "1,1,1"), Err(refusal(2, 5)));
+    assert_eq!(of("0", "1,0"), Err(refusal(3, 3)));
+    assert_eq!(of("16", "1,0"), Err(refusal(3, 3)));
+    assert_eq!(of("1/cap=1", "1,0"), Err(refusal(2, 4)));
+}
+
+/// A written variant keeps its edition and its capacities.
+#[test]
+fn written_in_edition_2() {
+    let text = "plan=2/res=2/cap=2/cap=15/acts=3/act=1,2,0/act=20000,0,15/act=3,1,1/nodes=7/node=s,2/node=a,0/node=x,2\
+        /node=s,2/node=a,1/node=a,2/node=a,1";
+    let kept = "plan=2/res=2/cap=2/cap=15/acts=3/act=1,2,0/act=20000,0,15/act=3,1,1";
+    for (variant, nodes) in
+        [(0, "/nodes=4/node=s,3/node=a,0/node=a,1/node=a,2"), (1, "/nodes=3/node=s,2/node=a,0/node=a,1")]
+    {
+        let (mut area, written) = ([0; 2175], file(&format!("{kept}{nodes}")));
+        assert_eq!(crate::planner().write(&file(text), variant, &mut area), Ok(written.len() as u64));
+        assert_eq!(area[..written.len()], written);
+        assert_eq!(crate::planner().write(&written, 0, &mut area), Ok(written.len() as u64));
+        assert_eq!(area[..written.len()], written);
+    }
+}
+
+/// 983 bytes are the most for edition 1 and 2175 for any: up to there a file is judged by its lines.
+#[test]
+fn longest_files() {
+    let nodes = format!("/nodes=64/node=x,63{}", "/node=a,23".repeat(63));
+    let one = format!("plan=1/res=16/acts=24{}{nodes}", "/act=15,20000".repeat(24));
+    let activity = format!("/act=20000{}", ",15".repeat(16));
+    let two = format!("plan=2/res=16{}/acts=24{}{nodes}", "/cap=15".repeat(16), activity.repeat(24));
+    assert_eq!((file(&one).len(), file(&two).len()), (983, 2175));
+    assert_eq!((variants(&one), variants(&two)), (Ok(63), Ok(63)));
+    counted(&two, 1);
+    assert_eq!(variants(&(two + "/")), Err(refusal(1, 0)));
+    assert_eq!(variants(&(one.clone() + "/")), Err(refusal(2, 93)));
+    assert_eq!(variants(&(one.clone() + &"/".repeat(1192))), Err(refusal(2, 93)));
+    assert_eq!(variants(&(one + &"/".repeat(1193))), Err(refusal(1, 0)));
+}
+
+/// Three activities of 20000 ticks on two arms, with ends past every start.
+#[test]
+fn units_left_past_every_start() {
+    let last = 4294967294;
+    let text = side_by_side(&[2], &["20000,1", "20000,1", "20000,1"]);
+    for (starts, feasible) in [
+        ([last, last, 0], true),
+        ([last, last, last], false),
+        ([last, last - 1, last - 2], false),
+        ([last, last, last - 19999], false),
+        ([last, last, last - 20000], true),
+        ([last - 20000, last, last - 1], true),
+        ([last - 20000, last - 1, last - 1], false),
+        ([last - 20000, last - 20001, last - 1], true),
+        ([last - 19998, last - 20002, last - 2], true),
+        ([last - 19998, last - 20001, last - 2], false),
+    ] {
+        assert_eq!(is_feasible(&text, &starts), feasible, "{starts:?}");
+    }
+}
+
+/// Every call on each file.
+#[test]
+fn files() {
+    let folder = concat!(env!("CARGO_MANIFEST_DIR"), "/../../campaigns");
+    let mut seen = 0;
+    for entry in std::fs::read_dir(folder).unwrap() {
+        let path = entry.unwrap().path();
+        if path.extension().is_some_and(|extension| extension == "plan") {
+            let plan = std::fs::read(&path).unwrap();
+            compare(&crate::planner(), &plan, &mut Random(seen))
+                .unwrap_or_else(|difference| panic!("{}: {difference}", path.display()));
+            seen += 1;
+        }
+    }
+    assert!(seen > 30);
 }

@@ -1,7 +1,7 @@
 //! One plan file: every call of a planner against the reference.
 
 use calls::{Answer, Best, Planner, Refusal, Timetable, MARK, PLACES};
-use reference::file::{parse, Plan};
+use reference::file::{parse, Activity, Plan};
 use reference::insertion::some_active_schedule;
 use reference::project::{Project, Schedule};
 use reference::random::Random;
@@ -13,6 +13,7 @@ use std::fmt::Debug;
 pub struct Seen {
     /// The number of its refusal, or 0.
     pub refused: u64,
+    pub edition: u64,
     pub variants: u64,
     pub sessions: Sessions,
 }
@@ -32,11 +33,13 @@ pub struct Listed {
     pub mixed: bool,
     /// Is some start past 65535?
     pub late: bool,
+    /// Do three activities or more run at once, that share a resource?
+    pub three: bool,
 }
 
 impl Listed {
     /// Of the rows, and how many active sessions each variant has.
-    fn new(rows: &[Vec<u32>], active: &[u64]) -> Listed {
+    fn new(plan: &Plan, rows: &[Vec<u32>], active: &[u64]) -> Listed {
         let mut own = vec![0; active.len()];
         rows.iter().for_each(|row| own[row[0] as usize] += 1);
         Listed {
@@ -44,8 +47,20 @@ impl Listed {
             pairs: active.iter().sum(),
             mixed: own.iter().zip(active).any(|(own, all)| 0 < *own && own < all),
             late: rows.concat().iter().any(|&cell| 65535 < cell && cell < MARK),
+            three: rows.iter().any(|row| runs_three(plan, row)),
         }
     }
+}
+
+/// Do three activities hold one resource on a tick?
+fn runs_three(plan: &Plan, row: &[u32]) -> bool {
+    let holds = |i: usize, r: usize, tick: u32| {
+        let Activity { duration, units } = &plan.activities[i];
+        units[r] > 0 && row[i + 1] <= tick && u64::from(tick) < u64::from(row[i + 1]) + duration
+    };
+    let present = || (0..plan.activities.len()).filter(|&i| row[i + 1] != MARK);
+    let together = |r: usize, tick: u32| present().filter(|&i| holds(i, r, tick)).count();
+    (0..plan.capacities.len()).any(|r| present().any(|i| together(r, row[i + 1]) > 2))
 }
 
 type Difference = Result<(), String>;
@@ -97,7 +112,7 @@ pub fn compare(planner: &impl Planner, file: &[u8], random: &mut Random) -> Resu
     match parse(file) {
         Err(refused) => {
             every_call_refuses(planner, file, refused, random)?;
-            Ok(Seen { refused: refused.number, variants: 0, sessions: Sessions::OverCap })
+            Ok(Seen { refused: refused.number, edition: 0, variants: 0, sessions: Sessions::OverCap })
         }
         Ok(plan) => {
             let size = planner.read(file).map(|size| [size.activities, size.nodes, size.variants]);
@@ -106,7 +121,7 @@ pub fn compare(planner: &impl Planner, file: &[u8], random: &mut Random) -> Resu
             compare_write(planner, file, &plan, random)?;
             compare_check(planner, file, &plan, random)?;
             let sessions = compare_sessions(planner, file, &plan, random)?;
-            Ok(Seen { refused: 0, variants, sessions })
+            Ok(Seen { refused: 0, edition: plan.edition, variants, sessions })
         }
     }
 }
@@ -114,7 +129,7 @@ pub fn compare(planner: &impl Planner, file: &[u8], random: &mut Random) -> Resu
 fn every_call_refuses(planner: &impl Planner, file: &[u8], refused: Refusal, random: &mut Random) -> Difference {
     let (variant, cap) = (random.below(3), random.number() as u32);
     same("read", Err(refused), planner.read(file))?;
-    let length = random.pick(&[0, 5, 1000]);
+    let length = random.pick(&[0, 5, 2300]);
     let mut area = Area::new(random, length, |n| n as u8);
     same("write", Err(refused), planner.write(file, variant, area.lent()))?;
     area.untouched("write", 0)?;
@@ -166,7 +181,7 @@ fn compare_write(planner: &impl Planner, file: &[u8], plan: &Plan, random: &mut 
     }
     let count = plan.term.variant_count();
     for variant in [count, count + random.below(10), u64::MAX, 1 << 32] {
-        let length = random.pick(&[0, 1000]);
+        let length = random.pick(&[0, 2300]);
         let mut area = Area::new(random, length, |n| n as u8);
         same("write", Err(refusal(9, 0)), planner.write(file, variant, area.lent()))?;
         area.untouched("write", 0)?;
@@ -180,8 +195,8 @@ fn any_timetable(random: &mut Random) -> Timetable {
     std::array::from_fn(|_| if random.once_in(2) { MARK } else { random.below(most) as u32 })
 }
 
-/// Some sessions begin later: anywhere, or so late that the last start is next to the mark or at it, or so late that the
-/// starts after the first go on from 0.
+/// Some sessions begin later: anywhere, or so late that the last start is next to the mark or at it, or so late
+/// that the starts after the first go on from 0.
 fn delay(random: &mut Random, starts: &mut Schedule) {
     let (mark, latest) = (u64::from(MARK), *starts.iter().max().unwrap());
     let shift = match random.below(6) {
@@ -227,11 +242,11 @@ fn likely_timetable(random: &mut Random, plan: &Plan, variant: u64, project: &Pr
 fn compare_check(planner: &impl Planner, file: &[u8], plan: &Plan, random: &mut Random) -> Difference {
     for variant in some_variants(random, plan) {
         let chosen = plan.variant(variant).unwrap();
-        let project = Project::new(&plan.activities, &chosen);
+        let project = Project::new(plan, &chosen);
         let mut timetables = vec![any_timetable(random), [MARK; PLACES], [0; PLACES]];
         timetables.extend((0..4).map(|_| likely_timetable(random, plan, variant, &project)));
         for starts in timetables {
-            let expected = is_session(&plan.activities, &chosen, &starts);
+            let expected = is_session(plan, &chosen, &starts);
             let call = format!("check of {starts:?} in {variant}");
             same(&call, Ok(expected), planner.check(file, variant, &starts))?;
         }
@@ -266,7 +281,13 @@ fn compare_sessions(planner: &impl Planner, file: &[u8], plan: &Plan, random: &m
                 compare_list(planner, file, cap, &rows, random)?;
                 compare_best(planner, file, cap, plan, &rows, random)?;
             }
-            Ok(Sessions::Listed(Listed::new(&rows, &active)))
+            if plan.edition == 1 {
+                // the same plan in the other edition
+                let other = Plan { edition: 2, ..plan.clone() }.text();
+                compare_list(planner, &other, larger, &rows, random)?;
+                compare_best(planner, &other, larger, plan, &rows, random)?;
+            }
+            Ok(Sessions::Listed(Listed::new(plan, &rows, &active)))
         }
     }
 }

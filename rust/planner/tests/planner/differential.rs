@@ -29,7 +29,8 @@ fn run(numbers: impl Iterator<Item = u64>) -> Tally {
             continue;
         }
         add("accepted", 1);
-        add("accepted, 983 bytes", u64::from(file.len() == 983));
+        add(&format!("accepted, edition {}", seen.edition), 1);
+        add(&format!("accepted, the longest of edition {}", seen.edition), u64::from(is_longest(seen.edition, &file)));
         match seen.sessions {
             Sessions::OverCap => add("accepted, more sessions than were to be listed", 1),
             Sessions::Open => add("accepted, sessions left open", 1),
@@ -39,12 +40,18 @@ fn run(numbers: impl Iterator<Item = u64>) -> Tally {
                 add("accepted, sessions listed, fewer than pairs", u64::from(listed.sessions < listed.pairs));
                 add("accepted, sessions listed, part of a variant's under lower ones", u64::from(listed.mixed));
                 add("accepted, sessions listed, a start past 65535", u64::from(listed.late));
+                add("accepted, sessions listed, three at once on a device", u64::from(listed.three));
+                add(&format!("accepted, sessions listed, edition {}", seen.edition), 1);
                 add("sessions", listed.sessions);
                 add("pairs of a variant and a session", listed.pairs);
             }
         }
     }
     tally
+}
+
+fn is_longest(edition: u64, file: &[u8]) -> bool {
+    file.len() == if edition == 1 { 983 } else { 2175 }
 }
 
 #[test]
@@ -63,12 +70,17 @@ fn differential() {
         println!("{n:>8} {name}");
     }
     if plans >= 100_000 {
-        assert!([1, 2, 3, 4, 5, 6, 10].iter().all(|number| all[&format!("refused {number}")] > plans / 200));
+        assert!([1, 2, 3, 4, 5, 6, 10, 11].iter().all(|number| all[&format!("refused {number}")] > plans / 200));
         assert!(all["accepted, sessions listed"] > plans / 4);
         assert!(all["accepted, sessions left open"] < plans / 100);
-        assert!(all["accepted, 983 bytes"] > 100 && all["accepted, sessions listed, 4096 variants"] > 10);
+        for edition in [1, 2] {
+            assert!(all[&format!("accepted, sessions listed, edition {edition}")] > plans / 10);
+            assert!(all[&format!("accepted, the longest of edition {edition}")] > 100);
+        }
+        assert!(all["accepted, sessions listed, 4096 variants"] > 10);
         assert!(all["accepted, sessions listed, fewer than pairs"] > plans / 10);
         assert!(all["accepted, sessions listed, part of a variant's under lower ones"] > plans / 50);
         assert!(all["accepted, sessions listed, a start past 65535"] > plans / 100);
+        assert!(all["accepted, sessions listed, three at once on a device"] > plans / 100);
     }
 }

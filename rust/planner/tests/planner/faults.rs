@@ -3,13 +3,13 @@
 use crate::compare::compare;
 use crate::plans::plan_file;
 use calls::{Answer, Best, Planner, Refusal, Size, Timetable, MARK};
-use reference::file::{parse, Plan};
+use reference::file::{parse, Activity, Plan};
 use reference::insertion::{active_schedules, Found};
 use reference::orders::each_earliest;
 use reference::project::{Project, Schedule};
 use reference::random::Random;
-use reference::rows::row_of;
-use reference::{makespan_of, refusal, Reference};
+use reference::rows::{row_of, Rows};
+use reference::{is_session, makespan_of, refusal, Reference};
 use std::collections::HashSet;
 
 #[derive(Clone, Copy, Debug, PartialEq)]
@@ -20,13 +20,26 @@ enum Fault {
     ReadTakesLeadingZero,
     ReadTakesGroupOfOne,
     ReadTakes20001,
+    ReadTakesOverCapacity,
+    ReadFillsInUnits,
+    ReadLimitsEdition1To983,
     GroupOfOneAsRange,
+    OverCapacityAsRange,
+    OverCapacityBeforeRange,
     FigureOffByOne,
     VariantsReversed,
     WriteKeepsNested,
+    WriteLosesCapacities,
+    WriteForgetsEdition,
     WriteTouchesPastTheEnd,
     WriteTouchesOnRefusal,
     CheckForgetsResources,
+    CheckForgetsSecondResource,
+    CheckTakesOneUnitForAny,
+    CheckTakesOneAtATime,
+    CheckWantsAUnitLeft,
+    CheckTakesTwoByTwo,
+    CheckLooksAtEnds,
     CheckForgetsMarks,
     CheckMarks65535,
     CheckEndsWrap,
@@ -35,6 +48,10 @@ enum Fault {
     RefusesCapUnseen,
     ListWritesNothing,
     ListRepeatsARow,
+    ListRepeatsEqualStarts,
+    ListForgetsSecondResource,
+    ListTakesOneUnitForAny,
+    ListTakesOneAtATime,
     ListTouchesPastTheEnd,
     ListExchangesTwoRows,
     ListForgetsVariants,
@@ -71,6 +88,10 @@ const SHARED: [Fault; 6] = [
     Fault::SharedByStartsAlone,
 ];
 
+/// Those in which LIST goes by other units.
+const LIST_UNITS: [Fault; 3] =
+    [Fault::ListForgetsSecondResource, Fault::ListTakesOneUnitForAny, Fault::ListTakesOneAtATime];
+
 struct Faulty(Fault);
 
 impl Faulty {
@@ -96,8 +117,19 @@ impl Faulty {
         if self.has(Fault::NothingWaits) {
             rows.retain(|row| !waits(&plan, row));
         }
-        if self.has(Fault::SlidesOnly) {
+        if self.has(Fault::SlidesOnly) && projects(&plan).iter().all(Project::is_one_unit) {
             rows = earliest_rows(&plan);
+        }
+        if self.has(Fault::ListRepeatsEqualStarts) {
+            let again: Vec<_> = rows.iter().filter(|row| has_equal_starts(&plan, row)).cloned().collect();
+            rows.extend(again);
+            rows.sort();
+        }
+        if LIST_UNITS.contains(&self.0) {
+            rows = match reference::rows::rows(&self.other_units(&plan), u64::from(cap), u64::MAX) {
+                Rows::All(rows, _) => rows,
+                _ => return Err(refusal(7, 0)),
+            };
         }
         if SHARED.contains(&self.0) {
             rows = self.shared_rows(&plan);
@@ -129,6 +161,46 @@ impl Faulty {
         (0..projects.len()).flat_map(rows).collect()
     }
 
+    /// The text of a variant where it is another.
+    fn other_text(&self, plan: &Plan, variant: u64) -> Option<Vec<u8>> {
+        let text = plan.written(variant).ok()?;
+        match self.0 {
+            Fault::WriteKeepsNested => Some(plan.text_of(&plan.term.variant(variant))),
+            Fault::WriteForgetsEdition => Some([b"plan=1", &text[6..]].concat()),
+            Fault::WriteLosesCapacities => {
+                let lines = text.split_inclusive(|&b| b == 10).filter(|line| !line.starts_with(b"cap="));
+                Some(lines.collect::<Vec<_>>().concat())
+            }
+            _ => None,
+        }
+    }
+
+    /// The plan with the units by which a faulty planner goes.
+    fn other_units(&self, plan: &Plan) -> Plan {
+        let mut plan = plan.clone();
+        if self.has(Fault::CheckWantsAUnitLeft) {
+            plan.capacities.iter_mut().for_each(|capacity| *capacity -= 1);
+        }
+        if self.has(Fault::CheckTakesOneAtATime) || self.has(Fault::ListTakesOneAtATime) {
+            plan.capacities.fill(1);
+        }
+        for Activity { units, .. } in &mut plan.activities {
+            match self.0 {
+                Fault::CheckForgetsResources => units.fill(0),
+                Fault::CheckForgetsSecondResource | Fault::ListForgetsSecondResource => {
+                    let first = units.iter().position(|&count| count > 0).unwrap_or(0);
+                    units[first + 1..].fill(0);
+                }
+                Fault::CheckTakesOneUnitForAny
+                | Fault::ListTakesOneUnitForAny
+                | Fault::CheckTakesOneAtATime
+                | Fault::ListTakesOneAtATime => units.iter_mut().for_each(|count| *count = 1.min(*count)),
+                _ => {}
+            }
+        }
+        plan
+    }
+
     fn variant(&self, plan: &Plan, variant: u64) -> u64 {
         let count = plan.term.variant_count();
         if self.has(Fault::VariantsReversed) && variant < count {
@@ -140,7 +212,7 @@ impl Faulty {
 }
 
 fn projects(plan: &Plan) -> Vec<Project> {
-    (0..plan.term.variant_count()).map(|v| Project::new(&plan.activities, &plan.term.variant(v))).collect()
+    (0..plan.term.variant_count()).map(|v| Project::new(plan, &plan.term.variant(v))).collect()
 }
 
 /// The active schedules of one variant, in order.
@@ -159,33 +231,88 @@ fn pairs(plan: &Plan) -> u64 {
     projects(plan).iter().map(|project| active(project).len() as u64).sum()
 }
 
-/// Does an activity wait although its predecessors are done and its resource is free on a tick before its start?
+/// Does an activity wait although its predecessors are done and there is room for it on a tick before its start?
 fn waits(plan: &Plan, row: &[u32]) -> bool {
-    let project = Project::new(&plan.activities, &plan.term.variant(u64::from(row[0])));
+    let project = Project::new(plan, &plan.term.variant(u64::from(row[0])));
     let starts: Vec<u64> = project.numbers.iter().map(|&i| u64::from(row[i + 1])).collect();
     let all = || 0..project.size();
+    let placed = vec![true; project.size()];
     all().any(|j| {
         let ready = all().filter(|&i| project.before[i][j]).map(|i| project.end(&starts, i)).max().unwrap_or(0);
-        let busy = |t: u64| {
-            all().any(|i| project.resource[i] == project.resource[j] && starts[i] <= t && t < project.end(&starts, i))
-        };
-        // a resource is first free at an end
+        // room comes with an end
         let ends = all().map(|i| project.end(&starts, i));
-        ends.chain([ready]).any(|t| (ready..starts[j]).contains(&t) && !busy(t))
+        let is_sooner = |t: &u64| (ready..starts[j]).contains(t);
+        ends.chain([ready]).filter(is_sooner).any(|t| project.has_room(&starts, &placed, j, t))
     })
+}
+
+/// Do two activities that share a resource start on one tick?
+fn has_equal_starts(plan: &Plan, row: &[u32]) -> bool {
+    let project = Project::new(plan, &plan.term.variant(u64::from(row[0])));
+    let start = |i: usize| row[project.numbers[i] + 1];
+    (0..project.size()).any(|j| (0..j).any(|i| start(i) == start(j) && project.share(i, j)))
+}
+
+/// Is it a session by another test of what runs together?
+fn is_other_session(fault: Fault, project: &Project, starts: &[u64]) -> bool {
+    let wrap = if fault == Fault::CheckEndsWrap { 1 << 32 } else { u64::MAX };
+    let end = |i: usize| project.end(starts, i) % wrap;
+    let all = || 0..project.size();
+    let in_order = |i: usize, j: usize| !project.before[i][j] || end(i) <= starts[j];
+    let runs = |i: usize, tick: u64| starts[i] <= tick && tick < end(i);
+    let fit = |set: &[usize], tick: u64| {
+        let held = |r: usize| set.iter().filter(|&&i| runs(i, tick)).map(|&i| project.units[i][r]).sum::<u64>();
+        (0..project.capacities.len()).all(|r| held(r) <= project.capacities[r])
+    };
+    let everything: Vec<usize> = all().collect();
+    let all_fit = match fault {
+        Fault::CheckTakesTwoByTwo => all().all(|i| (0..i).all(|j| fit(&[i, j], starts[i]) && fit(&[i, j], starts[j]))),
+        Fault::CheckLooksAtEnds => all().all(|i| fit(&everything, end(i))),
+        _ => all().all(|i| fit(&everything, starts[i])),
+    };
+    all_fit && all().all(|i| all().all(|j| in_order(i, j)))
 }
 
 /// A row for each schedule in which no activity can slide, though one may fit into an earlier gap.
 fn earliest_rows(plan: &Plan) -> Vec<Vec<u32>> {
     let mut rows = vec![];
     for variant in 0..plan.term.variant_count() {
-        let project = Project::new(&plan.activities, &plan.term.variant(variant));
+        let project = Project::new(plan, &plan.term.variant(variant));
         each_earliest(&project, &mut |starts| rows.push(row_of(plan, variant, &project, &starts)));
     }
     rows.sort();
     let mut seen = HashSet::new();
     rows.retain(|row| seen.insert(row[1..].to_vec()));
     rows
+}
+
+fn lines_of(file: &[u8]) -> Vec<String> {
+    String::from_utf8_lossy(file).split_terminator('\n').map(str::to_string).collect()
+}
+
+/// The file with another line in the place of one.
+fn with_line(file: &[u8], line: u64, change: impl Fn(&str) -> String) -> Vec<u8> {
+    let mut lines = lines_of(file);
+    lines[line as usize - 1] = change(&lines[line as usize - 1]);
+    (lines.join("\n") + "\n").into_bytes()
+}
+
+/// The counts of an activity all 0.
+fn without_units(line: &str) -> String {
+    let (duration, counts) = line.split_once(',').unwrap();
+    duration.to_string() + &",0".repeat(counts.split(',').count())
+}
+
+fn is_activity(file: &[u8], line: u64) -> bool {
+    lines_of(file).get(line as usize - 1).is_some_and(|line| line.starts_with("act="))
+}
+
+/// Is the line of an activity that has a count above its device's capacity?
+fn is_over_capacity(file: &[u8], line: u64) -> bool {
+    let lines = lines_of(file);
+    let capacities = lines.iter().filter_map(|line| line.strip_prefix("cap=")).map(|value| value.parse().unwrap_or(0));
+    let counts = lines[line as usize - 1].strip_prefix("act=").into_iter().flat_map(|values| values.split(',').skip(1));
+    counts.zip(capacities).any(|(count, capacity)| count.parse::<u64>().unwrap_or(0) > capacity)
 }
 
 /// The file without the node on a line.
@@ -233,14 +360,26 @@ impl Planner for Faulty {
             let text = String::from_utf8_lossy(file).replace(",20001\n", ",20000\n");
             return Reference.read(file).or(Reference.read(text.as_bytes()).or(Reference.read(file)));
         }
+        if self.has(Fault::ReadLimitsEdition1To983) && file.starts_with(b"plan=1\n") && file.len() > 983 {
+            return Err(refusal(1, 0));
+        }
         let answer = Reference.read(file);
-        if let Err(Refusal { number: 10, figure }) = answer {
-            if self.has(Fault::ReadTakesGroupOfOne) {
+        match (self.0, answer) {
+            (Fault::ReadTakesGroupOfOne, Err(Refusal { number: 10, figure })) => {
                 return self.read(&without_node(file, figure)).map(|size| Size { nodes: size.nodes + 1, ..size });
             }
-            if self.has(Fault::GroupOfOneAsRange) {
-                return Err(refusal(3, figure));
+            (Fault::GroupOfOneAsRange, Err(Refusal { number: 10, figure }))
+            | (Fault::OverCapacityAsRange, Err(Refusal { number: 11, figure })) => return Err(refusal(3, figure)),
+            (Fault::ReadTakesOverCapacity, Err(Refusal { number: 11, figure })) => {
+                return self.read(&with_line(file, figure, without_units));
             }
+            (Fault::ReadFillsInUnits, Err(Refusal { number: 2, figure })) if is_activity(file, figure) => {
+                return Reference.read(&with_line(file, figure, |line| line.to_string() + ",0")).or(answer);
+            }
+            (Fault::OverCapacityBeforeRange, Err(Refusal { number: 3, figure })) if is_over_capacity(file, figure) => {
+                return Err(refusal(11, figure));
+            }
+            _ => {}
         }
         answer.map_err(|refused| Refusal {
             figure: refused.figure - u64::from(self.has(Fault::FigureOffByOne) && refused.figure > 4),
@@ -250,8 +389,7 @@ impl Planner for Faulty {
 
     fn write(&self, file: &[u8], variant: u64, area: &mut [u8]) -> Answer<u64> {
         let plan = parse(file)?;
-        if self.has(Fault::WriteKeepsNested) && variant < plan.term.variant_count() {
-            let text = reference::file::text(plan.resources, &plan.activities, &plan.term.variant(variant));
+        if let Some(text) = self.other_text(&plan, variant) {
             if area.len() < text.len() {
                 return Err(refusal(8, text.len() as u64));
             }
@@ -281,26 +419,18 @@ impl Planner for Faulty {
         if self.has(Fault::CheckMarks65535) {
             exchange_marks(&mut starts);
         }
-        let yes = Reference.check(file, variant, &starts)?;
-        let project = Project::new(&plan.activities, &plan.variant(variant)?);
+        let chosen = plan.variant(variant)?;
+        let plan = self.other_units(&plan);
+        let project = Project::new(&plan, &chosen);
         let present: Vec<u64> = project.numbers.iter().map(|&i| u64::from(starts[i])).collect();
         let marked = (0..24).all(|i| (starts[i] == MARK) != project.numbers.contains(&i));
-        let wrap = if self.has(Fault::CheckEndsWrap) { 1 << 32 } else { u64::MAX };
-        let end = |i: usize| project.end(&present, i) % wrap;
-        let contend = |i: usize, j: usize| i != j && project.resource[i] == project.resource[j];
-        let agree = |i: usize, j: usize| {
-            let i_first = end(i) <= present[j];
-            let apart = i_first || end(j) <= present[i] || !contend(i, j);
-            (i_first || !project.before[i][j]) && (apart || self.has(Fault::CheckForgetsResources))
-        };
-        let all = || 0..project.size();
-        match self.0 {
-            Fault::CheckWantsActive => Ok(yes && project.is_settled(&present)),
-            Fault::CheckForgetsResources | Fault::CheckEndsWrap => {
-                Ok(marked && all().all(|i| all().all(|j| agree(i, j))))
+        Ok(match self.0 {
+            Fault::CheckWantsActive => is_session(&plan, &chosen, &starts) && project.is_settled(&present),
+            Fault::CheckEndsWrap | Fault::CheckTakesTwoByTwo | Fault::CheckLooksAtEnds => {
+                marked && is_other_session(self.0, &project, &present)
             }
-            _ => Ok(yes),
-        }
+            _ => is_session(&plan, &chosen, &starts),
+        })
     }
 
     fn count(&self, file: &[u8], cap: u32) -> Answer<u64> {
@@ -350,7 +480,7 @@ impl Planner for Faulty {
             _ => {}
         }
         let chain = |row: &[u32]| {
-            let project = Project::new(&plan.activities, &plan.term.variant(u64::from(row[0])));
+            let project = Project::new(&plan, &plan.term.variant(u64::from(row[0])));
             project.longest_chain()
         };
         let key = |row: &&Vec<u32>| match self.0 {
@@ -392,13 +522,26 @@ fn each_fault_is_found_out() {
         Fault::ReadTakesLeadingZero,
         Fault::ReadTakesGroupOfOne,
         Fault::ReadTakes20001,
+        Fault::ReadTakesOverCapacity,
+        Fault::ReadFillsInUnits,
+        Fault::ReadLimitsEdition1To983,
         Fault::GroupOfOneAsRange,
+        Fault::OverCapacityAsRange,
+        Fault::OverCapacityBeforeRange,
         Fault::FigureOffByOne,
         Fault::VariantsReversed,
         Fault::WriteKeepsNested,
+        Fault::WriteLosesCapacities,
+        Fault::WriteForgetsEdition,
         Fault::WriteTouchesPastTheEnd,
         Fault::WriteTouchesOnRefusal,
         Fault::CheckForgetsResources,
+        Fault::CheckForgetsSecondResource,
+        Fault::CheckTakesOneUnitForAny,
+        Fault::CheckTakesOneAtATime,
+        Fault::CheckWantsAUnitLeft,
+        Fault::CheckTakesTwoByTwo,
+        Fault::CheckLooksAtEnds,
         Fault::CheckForgetsMarks,
         Fault::CheckMarks65535,
         Fault::CheckEndsWrap,
@@ -407,6 +550,10 @@ fn each_fault_is_found_out() {
         Fault::RefusesCapUnseen,
         Fault::ListWritesNothing,
         Fault::ListRepeatsARow,
+        Fault::ListRepeatsEqualStarts,
+        Fault::ListForgetsSecondResource,
+        Fault::ListTakesOneUnitForAny,
+        Fault::ListTakesOneAtATime,
         Fault::ListTouchesPastTheEnd,
         Fault::ListExchangesTwoRows,
         Fault::ListForgetsVariants,

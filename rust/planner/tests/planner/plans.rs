@@ -7,16 +7,33 @@ type Node = (char, u64);
 /// The values of a plan file, whether or not they make a plan.
 #[derive(Clone)]
 struct Draft {
-    resources: u64,
-    activities: Vec<(u64, u64)>,
+    edition: u64,
+    capacities: Vec<u64>,
+    /// Durations, and the units of each resource.
+    activities: Vec<(u64, Vec<u64>)>,
     nodes: Vec<Node>,
 }
 
 impl Draft {
+    fn head(&self) -> String {
+        let head = format!("plan={}\nres={}\n", self.edition, self.capacities.len());
+        let capacity_lines: String = self.capacities.iter().map(|capacity| format!("cap={capacity}\n")).collect();
+        head + if self.edition == 1 { "" } else { &capacity_lines }
+    }
+
+    fn activity_line(&self, (duration, units): &(u64, Vec<u64>)) -> String {
+        if self.edition == 1 {
+            let resource = units.iter().position(|&count| count > 0).unwrap();
+            return format!("act={resource},{duration}\n");
+        }
+        let counts: String = units.iter().map(|count| format!(",{count}")).collect();
+        format!("act={duration}{counts}\n")
+    }
+
     fn text(&self) -> Vec<u8> {
-        let mut text = format!("plan=1\nres={}\nacts={}\n", self.resources, self.activities.len());
-        for (resource, duration) in &self.activities {
-            text += &format!("act={resource},{duration}\n");
+        let mut text = self.head() + &format!("acts={}\n", self.activities.len());
+        for activity in &self.activities {
+            text += &self.activity_line(activity);
         }
         text += &format!("nodes={}\n", self.nodes.len());
         for (letter, number) in &self.nodes {
@@ -32,14 +49,15 @@ pub fn plan_file(random: &mut Random) -> (&'static str, Vec<u8>) {
         0..=15 => ("tiny", tiny(random).text()),
         16..=28 => ("middling", middling(random).text()),
         29..=49 => ("shared activities", shared(random).text()),
-        50..=59 => ("large", large(random).text()),
-        60..=63 => ("groups of one", groups_of_one(random).text()),
-        64..=65 => ("many variants", many_variants(random).text()),
-        66..=69 => ("too many variants", too_many_variants(random).text()),
-        70..=73 => ("longest", longest(random)),
-        74..=79 => ("activity twice", twice(random).text()),
-        80..=86 => ("loose nodes", loose_nodes(random).text()),
-        87..=92 => ("values out of range", out_of_range(random)),
+        50..=57 => ("large", large(random).text()),
+        58..=61 => ("groups of one", groups_of_one(random).text()),
+        62..=63 => ("many variants", many_variants(random).text()),
+        64..=66 => ("too many variants", too_many_variants(random).text()),
+        67..=70 => ("longest", longest(random)),
+        71..=75 => ("activity twice", twice(random).text()),
+        76..=81 => ("loose nodes", loose_nodes(random).text()),
+        82..=86 => ("values out of range", out_of_range(random)),
+        87..=92 => ("units out of place", units_out_of_place(random)),
         93..=95 => ("any lines", any_lines(random)),
         _ => ("any bytes", any_bytes(random)),
     };
@@ -50,8 +68,47 @@ pub fn plan_file(random: &mut Random) -> (&'static str, Vec<u8>) {
     }
 }
 
-fn activities(random: &mut Random, count: u64, resources: u64, longest: u64) -> Vec<(u64, u64)> {
-    (0..count).map(|_| (random.below(resources), random.between(1, longest))).collect()
+/// An edition, and the units of each resource: few as a rule.
+fn devices(random: &mut Random, resources: u64) -> (u64, Vec<u64>) {
+    let one_unit = vec![1; resources as usize];
+    match random.below(8) {
+        0..=2 => (1, one_unit),
+        3 => (2, one_unit),
+        _ => {
+            let few = random.pick(&[&[1, 2][..], &[2, 2, 3], &[3, 4, 5], &[1, 2, 3, 7, 14, 15]]);
+            (2, (0..resources).map(|_| random.pick(few)).collect())
+        }
+    }
+}
+
+/// One unit of one resource.
+fn on(resource: u64, resources: usize) -> Vec<u64> {
+    (0..resources as u64).map(|r| u64::from(r == resource)).collect()
+}
+
+/// Units of any resources, of none, or of all.
+fn units(random: &mut Random, capacities: &[u64], without: u64) -> Vec<u64> {
+    let all = random.once_in(8);
+    let count = |&capacity: &u64| match random.below(without) {
+        0 => random.between(1, capacity),
+        1 => 1,
+        _ if all => capacity,
+        _ => 0,
+    };
+    capacities.iter().map(count).collect()
+}
+
+fn activities(random: &mut Random, count: u64, edition: u64, capacities: &[u64], longest: u64) -> Vec<(u64, Vec<u64>)> {
+    let resources = capacities.len();
+    let one_unit = edition == 1 || random.once_in(6);
+    let without = random.between(2, 2 + resources as u64);
+    let mut activity = || {
+        let duration = random.between(1, longest);
+        let units =
+            if one_unit { on(random.below(resources as u64), resources) } else { units(random, capacities, without) };
+        (duration, units)
+    };
+    (0..count).map(|_| activity()).collect()
 }
 
 fn shuffled(random: &mut Random, mut numbers: Vec<u64>) -> Vec<u64> {
@@ -90,11 +147,9 @@ fn term(random: &mut Random, activities: &[u64], room: u64, letters: &[char]) ->
 
 fn draft(random: &mut Random, count: u64, resources: u64, longest: u64, room: u64, letters: &[char]) -> Draft {
     let numbers = shuffled(random, (0..count).collect());
-    Draft {
-        resources,
-        activities: activities(random, count, resources, longest),
-        nodes: term(random, &numbers, room, letters),
-    }
+    let (edition, capacities) = devices(random, resources);
+    let activities = activities(random, count, edition, &capacities, longest);
+    Draft { edition, capacities, activities, nodes: term(random, &numbers, room, letters) }
 }
 
 fn tiny(random: &mut Random) -> Draft {
@@ -160,13 +215,14 @@ fn turned(random: &mut Random, letter: char) -> char {
 fn shared(random: &mut Random) -> Draft {
     let (count, resources) = (random.between(2, 6), random.between(1, 3));
     let longest = random.pick(&[1, 2, 5, 20_000]);
-    let activities = activities(random, count, resources, longest);
+    let (edition, capacities) = devices(random, resources);
+    let activities = activities(random, count, edition, &capacities, longest);
     loop {
         let numbers = shuffled(random, (0..count).collect());
         let nested = random.between(1, 2);
         let nodes = shared_term(random, &numbers, nested);
         if nodes.len() <= 64 {
-            return Draft { resources, activities, nodes };
+            return Draft { edition, capacities, activities, nodes };
         }
     }
 }
@@ -184,7 +240,8 @@ fn groups_of_one(random: &mut Random) -> Draft {
 fn choices(random: &mut Random, sizes: &[(u64, u64)], repeat: bool) -> Draft {
     let mut nodes = vec![('p', sizes.len() as u64)];
     let longest = random.pick(&[1, 4, 20_000]);
-    let mut activities = activities(random, 24, 16, longest);
+    let (edition, capacities) = devices(random, 16);
+    let mut activities = activities(random, 24, edition, &capacities, longest);
     let mut first = 0;
     for (own, &(children, distinct)) in sizes.iter().enumerate() {
         nodes.push(('x', children));
@@ -193,11 +250,11 @@ fn choices(random: &mut Random, sizes: &[(u64, u64)], repeat: bool) -> Draft {
             nodes.push(('a', first + of));
         }
         if !random.once_in(10) {
-            (0..distinct).for_each(|of| activities[(first + of) as usize].0 = own as u64);
+            (0..distinct).for_each(|of| activities[(first + of) as usize].1 = on(own as u64, 16));
         }
         first += distinct;
     }
-    Draft { resources: 16, activities, nodes }
+    Draft { edition, capacities, activities, nodes }
 }
 
 /// Around 4096 variants, or some hundreds.
@@ -234,8 +291,33 @@ fn too_many_variants(random: &mut Random) -> Draft {
     }
 }
 
-/// Files of 983 bytes, the longest that can be accepted: every value in two or five digits. Or of 982 or 984.
+/// Files of 983 or 2175 bytes, the longest of their edition that can be accepted: every value has as many digits as it
+/// may. Or one byte less, or some more.
 fn longest(random: &mut Random) -> Vec<u8> {
+    let edition = random.between(1, 2);
+    let capacities: Vec<u64> = (0..16).map(|_| if edition == 1 { 1 } else { random.between(10, 15) }).collect();
+    let units = |random: &mut Random| match edition {
+        1 => on(random.between(10, 15), 16),
+        _ => capacities.iter().map(|&capacity| random.between(10, capacity)).collect(),
+    };
+    let activities = (0..24).map(|_| (random.between(10_000, 20_000), units(random))).collect();
+    let nodes = longest_nodes(random);
+    let mut text = Draft { edition, capacities, activities, nodes }.text();
+    match random.below(6) {
+        0 => {
+            let byte = random.pick(b"\n0a");
+            text.resize(random.pick(&[text.len() + 1, 2175, 2176]), byte);
+        }
+        1 => {
+            text.pop();
+        }
+        _ => {}
+    }
+    text
+}
+
+/// 64 nodes of two digits each.
+fn longest_nodes(random: &mut Random) -> Vec<Node> {
     let mut nodes = vec![];
     let mut groups = vec![random.between(1, 6)];
     let mut left = 63;
@@ -251,16 +333,7 @@ fn longest(random: &mut Random) -> Vec<u8> {
             groups.push(below);
         }
     }
-    let activities = (0..24).map(|_| (random.between(10, 15), random.between(10_000, 20_000))).collect();
-    let mut text = Draft { resources: 16, activities, nodes }.text();
-    match random.below(6) {
-        0 => text.push(random.pick(b"\n0a")),
-        1 => {
-            text.pop();
-        }
-        _ => {}
-    }
-    text
+    nodes
 }
 
 /// One activity node now names another.
@@ -309,7 +382,7 @@ fn out_of_range(random: &mut Random) -> Vec<u8> {
     let mut draft = if random.once_in(2) { tiny(random) } else { middling(random) };
     if random.once_in(3) {
         let at = random.index(draft.activities.len());
-        draft.activities[at].1 = random.pick(&[0, 2001, 19999, 20000, 20001]);
+        draft.activities[at].0 = random.pick(&[0, 2001, 19999, 20000, 20001]);
         return draft.text();
     }
     let mut text = draft.text();
@@ -320,28 +393,97 @@ fn out_of_range(random: &mut Random) -> Vec<u8> {
     text
 }
 
+/// A plan of edition 2 with one or two faults in its `cap` and `act` lines, or on both sides of a limit there.
+fn units_out_of_place(random: &mut Random) -> Vec<u8> {
+    let mut draft = if random.once_in(2) { tiny(random) } else { middling(random) };
+    draft.edition = 2;
+    if random.once_in(2) {
+        for _ in 0..random.between(1, 2) {
+            beside_capacity(random, &mut draft);
+        }
+        return draft.text();
+    }
+    let mut lines: Vec<String> = String::from_utf8(draft.text()).unwrap().lines().map(str::to_string).collect();
+    for _ in 0..random.between(1, 2) {
+        damage_units(random, &mut lines);
+    }
+    (lines.join("\n") + "\n").into_bytes()
+}
+
+/// A capacity or a unit count at or past its limit.
+fn beside_capacity(random: &mut Random, draft: &mut Draft) {
+    let (r, i) = (random.index(draft.capacities.len()), random.index(draft.activities.len()));
+    let capacity = draft.capacities[r];
+    match random.below(4) {
+        0 => draft.capacities[r] = random.pick(&[0, 1, 14, 15, 16, 17, 99999]),
+        1 => draft.activities[i].1[r] = random.pick(&[0, 15, 16, 17, 99999]),
+        _ => draft.activities[i].1[r] = random.pick(&[capacity, capacity, capacity + 1, capacity + 2]),
+    }
+    if random.once_in(6) {
+        draft.activities[i].0 = random.pick(&[0, 20_000, 20_001]);
+    }
+}
+
+/// A fault in one of the `cap` lines or `act` lines.
+fn damage_units(random: &mut Random, lines: &mut Vec<String>) {
+    let key = random.pick(&["cap=", "act=", "act="]);
+    let of_key: Vec<usize> = (0..lines.len()).filter(|&n| lines[n].starts_with(key)).collect();
+    if of_key.is_empty() {
+        return;
+    }
+    let at = random.pick(&of_key);
+    match random.below(3) {
+        _ if key == "act=" => lines[at] = damaged_counts(random, &lines[at]),
+        0 => drop(lines.remove(at)),
+        1 => lines.insert(at, format!("cap={}", random.pick(&[1, 2, 15]))),
+        _ => lines[at] = format!("cap={}", random.pick(&["0", "16", "01", "015", "1,1", "", "x"])),
+    }
+}
+
+/// A count is left out, put in or of another form.
+fn damaged_counts(random: &mut Random, line: &str) -> String {
+    let mut fields: Vec<&str> = line.split(',').collect();
+    let at = random.index(fields.len());
+    match random.below(4) {
+        0 => drop(fields.remove(at)),
+        1 => fields.insert(at + 1, random.pick(&["0", "1", "16"])),
+        2 if at > 0 => fields[at] = random.pick(&["00", "01", "16", "", "1 ", "x"]),
+        _ => fields.truncate(at + 1),
+    }
+    fields.join(",")
+}
+
 /// Lines of the right forms in a random order.
 fn any_lines(random: &mut Random) -> Vec<u8> {
     let mut text = String::new();
     for _ in 0..random.between(1, 20) {
         let value = random.pick(&[0, 1, 1, 2, 3, 16, 24, 64]);
         let other = random.pick(&[0, 1, 2, 63, 20_000]);
-        text += &match random.below(6) {
+        text += &match random.below(7) {
             0 => format!("plan={value}\n"),
             1 => format!("res={value}\n"),
             2 => format!("acts={value}\n"),
             3 => format!("act={value},{other}\n"),
             4 => format!("nodes={value}\n"),
+            5 => format!("cap={value}\n"),
             _ => format!("node={},{other}\n", random.pick(&['a', 's', 'p', 'x', 'b', 'A'])),
         };
     }
-    let front = random.pick(&["", "plan=1\n", "plan=1\nres=1\n", "plan=1\nres=1\nacts=1\nact=0,1\n"]);
+    let front = random.pick(&[
+        "",
+        "plan=1\n",
+        "plan=2\n",
+        "plan=1\nres=1\n",
+        "plan=2\nres=1\n",
+        "plan=1\nres=1\nacts=1\nact=0,1\n",
+        "plan=2\nres=1\ncap=2\nacts=1\nact=1,2\n",
+    ]);
     (front.to_string() + &text).into_bytes()
 }
 
 fn any_bytes(random: &mut Random) -> Vec<u8> {
-    let length = random.pick(&[0, 0, 1, 7, 100, 982, 983, 984, 985, 2000]);
-    let from = random.pick(&[&b"plan=1\nres=acts=node=0123456789,aspx\n"[..], b"\n", b"\0", b"plan=1\n"]);
+    let length = random.pick(&[0, 0, 1, 7, 100, 983, 984, 2174, 2175, 2176, 2177, 4000]);
+    let from = random.pick(&[&b"plan=2\nres=cap=acts=node=0123456789,aspx\n"[..], b"\n", b"\0", b"plan=1\n"]);
     if random.once_in(2) {
         (0..length).map(|_| random.number() as u8).collect()
     } else {
@@ -399,7 +541,7 @@ fn damage(random: &mut Random, mut text: Vec<u8>) -> Vec<u8> {
         6 => {
             text.pop();
         }
-        7 => text.extend_from_slice(random.pick(&[&b"\n"[..], b"\0", b"x", b"node=a,0\n", b"plan=1\n"])),
+        7 => text.extend_from_slice(random.pick(&[&b"\n"[..], b"\0", b"x", b"node=a,0\n", b"plan=2\n"])),
         8 => {
             lines.remove(line);
             text = lines.concat();

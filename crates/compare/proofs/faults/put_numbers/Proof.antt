@@ -8,7 +8,7 @@ abbrev Inv-loop : tie.InvT-loop
 Inv-loop files i₀ i = Unit
 
 abbrev μ-loop : tie.MeasureT-loop
-μ-loop files i₀ i = 8 - i
+μ-loop files i₀ i = 9 - i
 
 pub put-numbers-spec : {M : Type 1} → statement M
 put-numbers-spec =

@@ -27,10 +27,10 @@ abbrev place-below : ℕ → In 2 place-kinds.ps
 place-below t = and 2 place-kinds.ps (falls 2 place-kinds.ps _<_ μ-place t) place.Pre
 
 abbrev place-Inv-loop : place-lts.InvT-loop
-place-Inv-loop file relations duration i s area₀ starts ticks t₀ tick₀ k₀ area t tick k = length area ≡ length area₀
+place-Inv-loop file rules duration i s area₀ starts ticks t₀ tick₀ k₀ area t tick k = length area ≡ length area₀
 
 abbrev place-μ-loop : place-lts.MeasureT-loop
-place-μ-loop file relations duration i s area₀ starts ticks t₀ tick₀ k₀ area t tick k = ticks - k
+place-μ-loop file rules duration i s area₀ starts ticks t₀ tick₀ k₀ area t tick k = ticks - k
 
 pub +place-spec : {M : Type 1} → statement M
 +place-spec = close μ-place λ t. place-lts.spec (

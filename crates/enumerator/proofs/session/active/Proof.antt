@@ -5,10 +5,10 @@ use Rattle.enumerator.proofs.session.active.Statement.{statement}
 use Rattle.enumerator.proofs.session.active.Tie as tie
 
 abbrev Inv-loop : tie.InvT-loop
-Inv-loop relations duration starts n unit i₀ i = Unit
+Inv-loop rules duration starts n unit i₀ i = Unit
 
 abbrev μ-loop : tie.MeasureT-loop
-μ-loop relations duration starts n unit i₀ i = 24 - i
+μ-loop rules duration starts n unit i₀ i = 24 - i
 
 pub active-spec : {M : Type 1} → statement M
 active-spec =

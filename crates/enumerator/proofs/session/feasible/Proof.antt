@@ -5,10 +5,10 @@ use Rattle.enumerator.proofs.session.feasible.Statement.{statement}
 use Rattle.enumerator.proofs.session.feasible.Tie as tie
 
 abbrev Inv-loop : tie.InvT-loop
-Inv-loop relations duration starts n i₀ i = Unit
+Inv-loop rules duration starts n i₀ i = Unit
 
 abbrev μ-loop : tie.MeasureT-loop
-μ-loop relations duration starts n i₀ i = 24 - i
+μ-loop rules duration starts n i₀ i = 24 - i
 
 pub feasible-spec : {M : Type 1} → statement M
 feasible-spec =

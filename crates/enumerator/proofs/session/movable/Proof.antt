@@ -5,10 +5,10 @@ use Rattle.enumerator.proofs.session.movable.Statement.{statement}
 use Rattle.enumerator.proofs.session.movable.Tie as tie
 
 abbrev Inv-loop : tie.InvT-loop
-Inv-loop relations duration starts n i start unit tick₀ k₀ k-end tick k = Unit
+Inv-loop rules duration starts n i start unit tick₀ k₀ k-end tick k = Unit
 
 abbrev μ-loop : tie.MeasureT-loop
-μ-loop relations duration starts n i start unit tick₀ k₀ k-end tick k = k-end - k
+μ-loop rules duration starts n i start unit tick₀ k₀ k-end tick k = k-end - k
 
 pub movable-spec : {M : Type 1} → statement M
 movable-spec =

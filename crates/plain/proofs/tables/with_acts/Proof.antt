@@ -5,10 +5,10 @@ use Rattle.plain.proofs.tables.with_acts.Statement.{statement}
 use Rattle.plain.proofs.tables.with_acts.Tie as tie
 
 abbrev Inv-loop : tie.InvT-loop
-Inv-loop file from acts q₀ at₀ i₀ q at i = Unit
+Inv-loop file t acts q₀ at₀ i₀ q at i = Unit
 
 abbrev μ-loop : tie.MeasureT-loop
-μ-loop file from acts q₀ at₀ i₀ q at i = acts - i
+μ-loop file t acts q₀ at₀ i₀ q at i = acts - i
 
 pub with-acts-spec : {M : Type 1} → statement M
 with-acts-spec =

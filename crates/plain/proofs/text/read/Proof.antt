@@ -8,7 +8,7 @@ abbrev Inv-loop : tie.InvT-loop
 Inv-loop file t₀ line₀ t line = Unit
 
 abbrev μ-loop : tie.MeasureT-loop
-μ-loop file t₀ line₀ t line = 94 - line
+μ-loop file t₀ line₀ t line = 110 - line
 
 pub read-spec : {M : Type 1} → statement M
 read-spec =

@@ -1,5 +1,0 @@
--- Loops over candidates, predecessors and resources.
-pub mod Columns
-pub mod Crowd
-pub mod Folds
-pub mod Turns

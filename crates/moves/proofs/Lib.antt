@@ -1,2 +1,0 @@
--- The loops of a move.
-pub mod Steps

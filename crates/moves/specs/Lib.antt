@@ -1,2 +1,0 @@
--- What the contracts of the steps of a move say.
-pub mod Moves

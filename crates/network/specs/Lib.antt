@@ -1,3 +1,0 @@
--- What the contracts on the table of a variant say.
-pub mod Network
-pub mod Steps

@@ -1,2 +1,0 @@
--- Small projects.
-pub mod Examples

@@ -1,3 +1,0 @@
--- The scan over any project.
-pub mod Components
-pub mod Scan
