@@ -277,7 +277,7 @@ class Search {
 
   // T loses what has ended, what waits and has room is attached, and the line moves. Where nothing waits it goes to the
   // next end of what is not frozen.
-  void move_on(Line &line) {
+  [[gnu::always_inline]] void move_on(Line &line) {
     uint32_t first = kNever;
     uint32_t waiting = line.left & ~line.placed;
     if (waiting != 0) {
@@ -297,7 +297,7 @@ class Search {
   }
 
   // j is frozen where it stands, and the others placed in its component are shifted.
-  void select(Line &line, uint32_t j) {
+  [[gnu::always_inline]] void select(Line &line, uint32_t j) {
     uint32_t joined = component_[j];
     line.left &= ~(1u << j);
     line.due &= ~place_[j];
