@@ -163,11 +163,9 @@ constexpr auto sorts(std::index_sequence<N...>) {
   return std::array{sort_rows<N + 2>...};
 }
 
-void answer(uint64_t *out, uint64_t a, uint64_t b, uint64_t c, uint64_t d) {
-  out[0] = a;
-  out[1] = b;
-  out[2] = c;
-  out[3] = d;
+template <class... Numbers>
+void answer(uint64_t *out, Numbers... numbers) {
+  ((*out++ = numbers), ...);
 }
 
 }  // namespace

@@ -87,6 +87,7 @@ class Search {
   }
 
   uint64_t count() const { return count_; }
+  uint64_t shortest() const { return shortest_; }
   uint64_t makespan() const { return makespan_; }
   uint64_t best_variant() const { return best_variant_; }
   void best_starts(uint32_t *starts) const { memcpy(starts, best_starts_, sizeof best_starts_); }
@@ -241,6 +242,7 @@ class Search {
     if (kHasLower && is_shared()) return true;
     if (count_ == cap_) return false;
     count_++;
+    if (latest <= makespan_) shortest_ = latest < makespan_ ? 1 : shortest_ + 1;
     if (latest < makespan_ || (latest == makespan_ && variant_ == best_variant_ && starts_before())) {
       makespan_ = latest;
       best_variant_ = variant_;
@@ -365,6 +367,7 @@ class Search {
   // Where each one placed and not frozen starts.
   uint32_t fit_[kActivities];
   uint64_t count_ = 0;
+  uint64_t shortest_ = 0;
   uint32_t makespan_ = kNever;
   uint32_t best_variant_ = 0;
   uint32_t best_starts_[kActivities];
@@ -379,9 +382,9 @@ class Search {
 void units_best(const uint8_t *file, size_t, uint32_t cap, uint32_t *starts, uint64_t *out) {
   Plan plan = read(file);
   Search search(plan, cap);
-  if (!search.run(nullptr)) return answer(out, 7, 0, 0, 0);
+  if (!search.run(nullptr)) return answer(out, 7, 0, 0, 0, 0);
   search.best_starts(starts);
-  answer(out, 0, search.best_variant(), search.makespan(), search.count());
+  answer(out, 0, search.best_variant(), search.makespan(), search.count(), search.shortest());
 }
 
 void units_list(const uint8_t *file, size_t, uint32_t cap, uint32_t *area, size_t area_len, uint64_t *out) {

@@ -3,7 +3,7 @@
 mod peer;
 mod plans;
 
-use planner::{Planner, MARK};
+use planner::{Best, Planner, MARK};
 use plans::Plan;
 use reference::file::parse;
 use reference::orders;
@@ -111,47 +111,56 @@ fn ratio(a: Option<f64>, b: Option<f64>) -> String {
     }
 }
 
-/// The number of sessions, each counted once, and the shortest makespan; none where there is too much to try.
-fn enumerated(plan: &reference::file::Plan) -> Option<(u64, u64)> {
+/// The shortest makespan, the number of sessions, each counted once, and how many of them are shortest; none where
+/// there is too much to try.
+fn enumerated(plan: &reference::file::Plan) -> Option<[u64; 3]> {
     match plan.edition {
         1 => by_orders(plan),
         _ => by_start(plan),
     }
 }
 
-fn by_start(plan: &reference::file::Plan) -> Option<(u64, u64)> {
+fn by_start(plan: &reference::file::Plan) -> Option<[u64; 3]> {
     match rows(plan, MOST_BY_START, u64::MAX) {
-        Rows::All(rows, _) => Some((rows.len() as u64, first_shortest(plan, &rows).0.makespan)),
+        Rows::All(rows, _) => Some(numbers(first_shortest(plan, &rows).0)),
         _ => None,
     }
 }
 
+fn numbers(best: Best) -> [u64; 3] {
+    [best.makespan, best.count, best.shortest]
+}
+
 /// By every order on every resource.
-fn by_orders(plan: &reference::file::Plan) -> Option<(u64, u64)> {
+fn by_orders(plan: &reference::file::Plan) -> Option<[u64; 3]> {
     let project = |variant: u64| Project::new(plan, &plan.term.variant(variant));
     let variants = 0..plan.term.variant_count();
     let mut left = MOST_FOR_ENUMERATOR;
     for variant in variants.clone() {
         left -= orders::combinations(&project(variant), left)?;
     }
-    let mut shortest = u64::MAX;
-    let mut by_activities: HashMap<Vec<usize>, HashSet<Schedule>> = HashMap::new();
+    let mut by_activities: HashMap<Vec<usize>, (Project, HashSet<Schedule>)> = HashMap::new();
     for variant in variants {
         let project = project(variant);
         let found = orders::active_schedules(&project);
-        shortest = found.iter().map(|starts| project.makespan(starts)).fold(shortest, u64::min);
         match by_activities.get_mut(&project.numbers) {
-            Some(others) => others.extend(found),
-            None => drop(by_activities.insert(project.numbers, found)),
+            Some((_, others)) => others.extend(found),
+            None => drop(by_activities.insert(project.numbers.clone(), (project, found))),
         }
     }
-    Some((by_activities.values().map(|found| found.len() as u64).sum(), shortest))
+    let mut makespans = vec![];
+    for (project, found) in by_activities.values() {
+        makespans.extend(found.iter().map(|starts| project.makespan(starts)));
+    }
+    let makespan = *makespans.iter().min().unwrap();
+    let shortest = makespans.iter().filter(|&&other| other == makespan).count();
+    Some([makespan, makespans.len() as u64, shortest as u64])
 }
 
 fn best_table(title: &str, plans: &[Plan]) {
     let (planner, name) = PLANNER;
     println!("\n{title}\n");
-    print!("{:<24} {:>4} {:>4} {:>9} {:>8}", "plan", "acts", "V", "sessions", "shortest");
+    print!("{:<24} {:>4} {:>4} {:>9} {:>8}", "plan", "acts", "V", "sessions", "makespan");
     print!("  {name:>9} {:>9} {:>9} {:>9}", "each", "peer", "each");
     println!(" {:>8}  {:>10} {:>8}", "ratio", "enumerator", "ratio");
     for Plan { name, file } in plans {
@@ -169,17 +178,17 @@ fn best_table(title: &str, plans: &[Plan]) {
         }
         let (time, peer_time) = race(24, is_timed(sessions).then_some(by_planner), by_peer);
         let begin = user_time();
-        let enumerator_time = enumerated(&plan).map(|(count, shortest)| {
-            assert_eq!(found.map(|best| (best.count, best.makespan)), Ok((count, shortest)), "{name}");
+        let enumerator_time = enumerated(&plan).map(|expected| {
+            assert_eq!(found.map(numbers), Ok(expected), "{name}");
             user_time() - begin
         });
-        let (count, shortest) = match found {
+        let (count, makespan) = match found {
             Ok(best) => (best.count.to_string(), best.makespan.to_string()),
             Err(_) => (format!("> {CAP}"), "-".into()),
         };
         let each = |time: Option<f64>| shown(time.map(|time| time / sessions as f64));
         let (activities, variants) = (plan.activities.len(), plan.term.variant_count());
-        print!("{name:<24} {activities:>4} {variants:>4} {count:>9} {shortest:>8}");
+        print!("{name:<24} {activities:>4} {variants:>4} {count:>9} {makespan:>8}");
         print!("  {:>9} {:>9} {:>9} {:>9}", shown(time), each(time), shown(Some(peer_time)), each(Some(peer_time)));
         print!(" {:>8}", ratio(time, Some(peer_time)));
         println!("  {:>10} {:>8}", shown(enumerator_time), ratio(enumerator_time, time));

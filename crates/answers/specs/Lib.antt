@@ -1,5 +1,4 @@
--- What COUNT, LIST and BEST answer.
-pub mod Count
+-- What LIST and BEST answer.
 pub mod Listed
 pub mod Shortest
 pub mod Words

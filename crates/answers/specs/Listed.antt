@@ -1,5 +1,5 @@
--- LIST: the rows of COUNT's pairs in their order, from the front of the area with no gap. What stands behind them is as
--- it was, and a refusal leaves the whole area as it was.
+-- LIST: the rows of the pairs in their order, from the front of the area with no gap. What stands behind them is as it
+-- was, and a refusal leaves the whole area as it was.
 use Prim.Native.Nat.{ℕ, suc, _*_}
 use mathlib.Core.Bool.{Bool, true, false}
 use mathlib.Core.List.{List, _++_}

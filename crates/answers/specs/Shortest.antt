@@ -1,10 +1,11 @@
--- BEST: the first of COUNT's pairs that are shortest, with its makespan and COUNT's number. No feasible session of any
--- variant is shorter: what holds of it is on the page of theorems, `demand-3` and `first-shortest-row`.
+-- BEST: the first of the pairs that are shortest, with its makespan, the number of pairs and how many are shortest. No
+-- feasible session of any variant is shorter: what holds of it is on the page of theorems, `demand-3` and
+-- `first-shortest-row`.
 use Prim.Native.Nat.{ℕ}
 use mathlib.Core.Bool.{Bool, true, false}
 use mathlib.Core.List.{List, [], map}
 use lib.Dec.{eqb, leb}
-use lib.ListN.{getD, drop}
+use lib.ListN.{length, getD, drop}
 use Rattle.base.specs.Lists.{keep, leastOf}
 use Rattle.plan.specs.Plan.{Plan}
 use Rattle.plan.specs.declared.Refusal.{Refusal}
@@ -33,9 +34,12 @@ rowStarts row = drop 1 row
 abbrev pub rowSpan : Plan → Term → List ℕ → ℕ
 rowSpan p t row = makespanIn p t (rowVariant row) (startsOf (rowStarts row))
 
--- The pairs whose makespan is the least, in their order, and the first of them.
+-- The pairs whose makespan is the least, in their order, how many they are, and the first of them.
 unfoldable pub shortestPairs : Plan → Term → List (List ℕ)
 shortestPairs p t = keep (λ row. eqb (rowSpan p t row) (leastOf (map (rowSpan p t) (pairs p t)))) (pairs p t)
+
+unfoldable pub shortestCount : Plan → Term → ℕ
+shortestCount p t = length (shortestPairs p t)
 
 unfoldable pub firstShortest : Plan → Term → List ℕ
 firstShortest p t = getD (shortestPairs p t) 0 []
@@ -44,7 +48,7 @@ firstShortest p t = getD (shortestPairs p t) 0 []
 abbrev pub bestRow : Plan → Term → List ℕ → Best
 bestRow p t row =
     record {
-      answer = Found (rowVariant row) (rowSpan p t row) (pairCount p t);
+      answer = Found (rowVariant row) (rowSpan p t row) (pairCount p t) (shortestCount p t);
       timetable = record { starts = timetableOf p (rowStarts row) };
     }
 

@@ -58,3 +58,11 @@ pub record FirstShortest (p : Plan) (t : Term) (row : List ℕ) : Type 0 where
   pub least : (other : List ℕ) → IsRow p t other → rowSpan p t row ≤ rowSpan p t other
   pub first : (other : List ℕ) → IsRow p t other → rowSpan p t other ≡ rowSpan p t row → other ≢ row
       → StandsBefore t row other
+
+-- n of the rows are shortest: exactly those than which no row is shorter, each once.
+pub record ShortestRows (p : Plan) (t : Term) (n : ℕ) : Type 0 where
+  pub rows : List (List ℕ)
+  pub exactly : (row : List ℕ) → List·Memᴰ row rows
+      ↔ (IsRow p t row × ((other : List ℕ) → IsRow p t other → rowSpan p t row ≤ rowSpan p t other))
+  pub once : List·Nodup rows
+  pub count : length rows ≡ n

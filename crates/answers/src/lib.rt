@@ -1,11 +1,7 @@
-// COUNT, LIST and BEST: the active sessions of a plan, counted, listed, and a shortest one.
+// LIST and BEST: the active sessions of a plan listed, and the first shortest one with how many there are and how many
+// are as short.
 use plan::Refusal;
 use timetable::Timetable;
-
-pub enum CountAnswer {
-    Counted(u64),
-    Refused(Refusal),
-}
 
 pub enum ListAnswer {
     // How many rows were written.
@@ -14,10 +10,13 @@ pub enum ListAnswer {
 }
 
 pub enum BestAnswer {
+    // Of the first shortest session its variant and makespan; how many active sessions there are, and how many of these
+    // are as short.
     Found {
         variant: u64,
         makespan: u64,
         count: u64,
+        shortest: u64,
     },
     Refused(Refusal),
 }

@@ -1,5 +1,5 @@
 -- Lists that `keep`, `gather` and `cellsOf` make: their members, how long they are, permutations part by part.
-use Prim.Native.Nat.{ℕ, zero, suc, _*_, _≤_, _<_}
+use Prim.Native.Nat.{ℕ, zero, suc, _+_, _*_, _≤_, _<_}
 use native.Mathlib.Nat.{ℕ-set, not-suc-le-zero, suc-mul}
 use native.Mathlib.Decide.{ℕ-discrete, decLe}
 use native.Mathlib.Omega.{arith}
@@ -92,6 +92,17 @@ module _ {ℓ} {A : Type ℓ} where
   keep-same f g (x ∷ xs) each =
       let rest : keep f xs ≡ keep g xs = keep-same f g xs (λ a m. each a (List·Memᴰ·tail m)) in
       ap₂ (λ (b : Bool) (l : List A). cond b (x ∷ l) l) (each x (List·Memᴰ·head refl)) rest
+
+  pub keep-length : (f : A → Bool) (x : A) (xs : List A)
+      → length (keep f (x ∷ xs)) ≡ cond (f x) 1 0 + length (keep f xs)
+  unfolding keep
+  keep-length f x xs = by-bool (f x) (λ y. rw y (omega arith)) (λ z. rw z (omega arith))
+
+  pub keep-map {κ} : {B : Type κ} (f : A → Bool) (g : B → A) (l : List B)
+      → keep f (map g l) ≡ map g (keep (λ b. f (g b)) l)
+  unfolding keep
+  keep-map f g [] = refl
+  keep-map f g (x ∷ xs) = by-bool (f (g x)) (λ y. rw y (ap (g x ∷_) (keep-map f g xs))) (λ z. rw z (keep-map f g xs))
 
   keep-derived : (f : A → Bool) {l m : List A} → List·Permᴰ l m → List·Permᴰ (keep f l) (keep f m)
   unfolding keep

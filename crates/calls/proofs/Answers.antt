@@ -1,4 +1,4 @@
--- What COUNT, LIST and BEST answer for an accepted plan, from what the sweeps over its variants have kept.
+-- What LIST and BEST answer for an accepted plan, from what the sweeps over its variants have kept.
 use Prim.Native.Nat.{ℕ, suc, _+_, _*_, _≤_, _<_}
 use native.Mathlib.Numerals.{add-one}
 use native.Mathlib.Omega.{arith}
@@ -24,13 +24,11 @@ use Rattle.judge.specs.Judge.{accepts}
 use Rattle.judge.specs.Campaign.{HoldsPlan}
 use Rattle.judge.specs.declared.Campaign.{Campaign}
 use Rattle.judge.proofs.Ranges.{acts-are}
-use Rattle.answers.specs.Count.{countBy}
 use Rattle.answers.specs.Listed.{listBy, cellsNeeded}
 use Rattle.answers.specs.Shortest.{bestBy}
 use Rattle.answers.specs.declared.Best.{Best}
 use Rattle.answers.specs.declared.BestAnswer.the-variants.{Found}
 use Rattle.answers.specs.declared.BestAnswer.the-variants as bests
-use Rattle.answers.specs.declared.CountAnswer.the-variants as counts
 use Rattle.answers.specs.declared.ListAnswer.the-variants as lists
 use Rattle.sweep.specs.Swept.{Swept}
 use Rattle.calls.proofs.Swept.{allowed, too-many, all-rows, kept-best}
@@ -48,12 +46,6 @@ module _ (c : Campaign) (t : Term) (holds : HoldsPlan c t) (cap : ℕ) where
 
     pairs-refused : cap < r .count → leb (pairCount p t) cap ≡ false
     pairs-refused = too-many c t holds cap (kept (noTally end) area) (kept r (is .0)) refl (is .1)
-
-    pub counts-allowed : r .count ≤ cap → counts.Counted (r .count) ≡ countBy (accepts p t) cap
-    counts-allowed l = let h = pairs-allowed l in rw (h .1) (ap counts.Counted (sym (h .0)))
-
-    pub counts-refused : cap < r .count → counts.Refused OverCap ≡ countBy (accepts p t) cap
-    counts-refused l = rw (pairs-refused l) refl
 
     -- LIST: the cells of a row, and those that the rows need.
     width-is : c .tables .acts + 1 ≡ suc (length (p .activities))
@@ -103,11 +95,11 @@ module _ (c : Campaign) (t : Term) (holds : HoldsPlan c t) (cap : ℕ) where
         rw (pairs-refused l) (λ i. record { answer = answer i; timetable = record { starts = none i } })
 
     pub best-found : latestPossible < end → r .count ≤ cap → (b : Best)
-        → b .answer ≡ Found (r .«best_variant») (r .«best_end») (r .count)
+        → b .answer ≡ Found (r .«best_variant») (r .«best_end») (r .count) (r .ties)
         → b .timetable .starts ≡ r .best .starts → b ≡ bestBy (accepts p t) cap
     best-found late l b answer timetable =
         let few : pairCount p t ≤ cap = omega (arith, pairs-allowed l .0) in
         rw (pairs-allowed l .1)
-        (kept-best c t holds cap (kept (noTally end) area) (kept r (is .0)) refl (is .1) late few b
-        (answer ∙ ap (Found (r .«best_variant») (r .«best_end»)) (sym (pairs-allowed l .0)))
+        (kept-best c t holds cap (kept (noTally end) area) (kept r (is .0)) refl (is .1) refl late few b
+        (answer ∙ ap (λ (n : ℕ). Found (r .«best_variant») (r .«best_end») n (r .ties)) (sym (pairs-allowed l .0)))
         timetable)

@@ -7,18 +7,12 @@ use mathlib.Core.List.{List}
 use Rattle.plan.specs.Outcome.{Outcome}
 use Rattle.plan.specs.Limits.{mostActs, wordValues}
 use Rattle.judge.specs.Judge.{Verdict, judge}
-use Rattle.answers.specs.Count.{countBy, countOf}
 use Rattle.answers.specs.Listed.{listBy, listOf}
 use Rattle.answers.specs.Shortest.{bestBy, bestOf}
 use Rattle.answers.specs.declared.Best.{Best}
-use Rattle.answers.specs.declared.CountAnswer.{CountAnswer}
 use Rattle.answers.specs.declared.ListAnswer.{ListAnswer}
 
 module _ (s : List ℕ) (v : Verdict) (is : judge s ≡ v) (cap : ℕ) where
-  pub count-of : (r : CountAnswer) → r ≡ countBy v cap → r ≡ countOf s cap
-  unfolding countOf
-  count-of r = subst (λ (x : Verdict). r ≡ countBy x cap) (sym is)
-
   pub list-of : (before : List ℕ) (o : Outcome ListAnswer) → o ≡ listBy v cap before → o ≡ listOf s cap before
   unfolding listOf
   list-of before o = subst (λ (x : Verdict). o ≡ listBy x cap before) (sym is)

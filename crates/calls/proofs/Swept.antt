@@ -1,13 +1,13 @@
--- What a sweep over the variants of an accepted plan has kept: the number of its pairs, their rows in some order, and
--- the first shortest of them.
+-- What a sweep over the variants of an accepted plan has kept: the number of its pairs, their rows in some order, the
+-- first shortest of them, and how many are shortest.
 use Prim.Native.Nat.{ℕ, suc, _-_, _*_, _≤_, _<_}
 use native.Mathlib.Decide.{ℕ-discrete}
 use native.Mathlib.Omega.{arith}
-use mathlib.Core.Bool.{true, false}
+use mathlib.Core.Bool.{Bool, true, false}
 use mathlib.Core.Path.{_≡_, refl, sym, ap, ap₂, subst, _∙_}
 use mathlib.Core.List.{List, _∷_, _++_, map, List·Memᴰ, List-discrete, head-eq-of-cons-eq, tail-eq-of-cons-eq}
 use mathlib.Core.List.{Perm, Perm·map, Perm·mem-iff}
-use lib.Dec.{leb}
+use lib.Dec.{eqb, leb}
 use lib.ListN.{length, drop, replicate, length-map}
 use lib.Seq.{drop-at}
 use borrow.Author.Tests.{le-leb, lt-leb, leb-true}
@@ -15,9 +15,10 @@ use Rattle.plan.specs.Limits.{latestPossible}
 use Rattle.plan.specs.Plan.{Plan, planOf}
 use Rattle.term.specs.Term.{Term}
 use Rattle.term.specs.Variants.{variantCount}
-use Rattle.base.specs.Lists.{cellsOf}
+use Rattle.base.specs.Lists.{keep, cellsOf}
 use Rattle.base.specs.Order.{NotAfter, sorted}
-use Rattle.base.proofs.Lists.{mem-found, keep-is, keep-mem, gather-perm, cells-length}
+use Rattle.base.proofs.Lists.{mem-found, keep-is, keep-mem, keep-same, keep-map, keep-perm, gather-perm, cells-length}
+use Rattle.base.proofs.Lists.{perm-length}
 use Rattle.timetable.specs.Mark.{mark, places}
 use Rattle.schedule.specs.Schedule.{latestEnd}
 use Rattle.schedule.specs.Sessions.{startsOf}
@@ -26,20 +27,22 @@ use Rattle.tally.specs.Entries.{Entry, entryOf, entriesBelow, run}
 use Rattle.tally.proofs.Entries.{entry-is, entry-in}
 use Rattle.tally.proofs.Count.{count-within, count-tells}
 use Rattle.tally.proofs.Best.{rankEntry, FirstFound, best}
+use Rattle.tally.proofs.Ties.{endEntry, endingOn, ties-are}
+use Rattle.tally.specs.declared.Tally.{Tally}
 use Rattle.tally.proofs.Area.{line, lines, lines-below, area-is}
 use Rattle.variant.specs.Pairs.{sessionsOf, isNew, pairs, pairCount}
 use Rattle.judge.specs.Campaign.{HoldsPlan}
 use Rattle.judge.specs.declared.Campaign.{Campaign}
 use Rattle.judge.proofs.Ranges.{acts-are}
 use Rattle.answers.specs.Listed.{cellsNeeded}
-use Rattle.answers.specs.Shortest.{firstShortest, bestRow}
+use Rattle.answers.specs.Shortest.{rowSpan, shortestCount, firstShortest, bestRow}
 use Rattle.answers.specs.declared.Best.{Best}
 use Rattle.answers.specs.declared.BestAnswer.the-variants.{Found}
 use Rattle.plan_exact.proofs.Variant.{chosen}
 use Rattle.plan_exact.proofs.Found.{variant-latest}
 use Rattle.plan_exact.proofs.Pairs.{Pair, row-pair}
 use Rattle.plan_exact.proofs.Rows.{rows-sorted, rows-count, pairs-some}
-use Rattle.plan_exact.proofs.Answers.{ranked, session-long, earliest-best}
+use Rattle.plan_exact.proofs.Answers.{endAt, ranked, Earliest, session-long, span-is, earliest-ties, earliest-best}
 use Rattle.sorting.specs.Rows.{rowsIn}
 use Rattle.sorting.proofs.Rows.{rows-in-cells}
 use Rattle.sweep.specs.Swept.{projectAt, newAt, Swept}
@@ -116,6 +119,25 @@ module _ (c : Campaign) (t : Term) (holds : HoldsPlan c t) where
         ap (λ (n : ℕ). latestEnd (projectAt c t v) (startsOf row) ∷ v ∷ (row ++ replicate (places - n) mark))
         (session-long p t v row (pair .session))
 
+    -- A row's makespan is the latest end of its entry.
+    entry-span : (e : Entry) → List·Memᴰ e all → endEntry e ≡ rowSpan p t (line e)
+    entry-span e m =
+        let (v, l, row, n, is) = entry-is (projectAt c t) x (variantCount t) e m in
+        sym (ap endEntry is)
+        ∙ span-is p t (holds .valid) v row (row-pair-of v l row n)
+        ∙ ap (λ (y : Entry). rowSpan p t (line y)) is
+
+    ending-pairs : (end : ℕ) → endingOn end all ≡ length (keep (λ row. eqb (rowSpan p t row) end) (pairs p t))
+    ending-pairs end =
+        let test : List ℕ → Bool = λ row. eqb (rowSpan p t row) end in
+        let own : List Entry = keep (λ e. test (line e)) all in
+        ap length
+        (keep-same (λ e. eqb (endEntry e) end) (λ e. test (line e)) all
+        (λ e m. ap (λ (n : ℕ). eqb n end) (entry-span e m)))
+        ∙ sym (length-map own line)
+        ∙ ap length (sym (keep-map test line all))
+        ∙ perm-length (keep test (lines all)) (keep test (pairs p t)) (keep-perm test lines-perm)
+
   -- A sweep that starts with a count of 0; for BEST also with an end that is later than any.
   module _ (cap : ℕ) (k after : Kept) (fresh : k .tally .count ≡ 0) (s : Swept c t cap (variantCount t) k after) where
     abbrev es : List Entry
@@ -176,23 +198,25 @@ module _ (c : Campaign) (t : Term) (holds : HoldsPlan c t) where
           variant-latest p t v (chosen p t v (holds .valid) l) row (row-pair-of (s .rows) (s .all) v l row n .session),
         ))
 
-    -- The schedule that is kept is what BEST answers.
-    pub kept-best : latestPossible < k .tally .«best_end» → pairCount p t ≤ cap → (b : Best)
-        → b .answer ≡ Found (after .tally .«best_variant») (after .tally .«best_end») (pairCount p t)
+    -- The schedule that is kept is what BEST answers, with as many ties as are shortest.
+    pub kept-best : k .tally .ties ≡ 0 → latestPossible < k .tally .«best_end» → pairCount p t ≤ cap → (b : Best)
+        → b .answer
+        ≡ Found (after .tally .«best_variant») (after .tally .«best_end») (pairCount p t) (after .tally .ties)
         → b .timetable .starts ≡ after .tally .best .starts
         → b ≡ bestRow p t (firstShortest p t)
-    kept-best above few b answer timetable =
-        let f : FirstFound (run acts cap k es .tally) es = first above few in
+    kept-best untied above few b answer timetable =
+        let last : Tally = run acts cap k es .tally in
+        let f : FirstFound last es = first above few in
         let (v, l, row, m, is) = entry-is (projectAt c t) (s .rows) (variantCount t) (f .entry) (f .one-of) in
         let pair : Pair p t v row = row-pair-of (s .rows) (s .all) v l row m in
-        let kept : rankKept (run acts cap k es .tally) ≡ ranked p t v row =
+        let kept : rankKept last ≡ ranked p t v row =
         f .keeps ∙ ap rankEntry (sym is) ∙ rank-is (s .rows) (s .all) v row pair in
         let rank : rankKept (after .tally) ≡ ranked p t v row =
         ap (λ (x : Kept). rankKept (x .tally)) (s .kept) ∙ kept in
         let end = head-eq-of-cons-eq rank in
         let variant = head-eq-of-cons-eq (tail-eq-of-cons-eq rank) in
-        earliest-best p t (holds .valid) v row
-        (record {
+        let earliest : Earliest p t v row =
+        record {
           pair = pair;
           first =
               λ u other else.
@@ -201,7 +225,15 @@ module _ (c : Campaign) (t : Term) (holds : HoldsPlan c t) where
               (subst (λ (a : List ℕ). NotAfter a (rankEntry (entryOf (projectAt c t u) u other))) kept
               (f .first (entryOf (projectAt c t u) u other)
               (entry-in (projectAt c t) (s .rows) (variantCount t) u other (else .below) n)));
-        })
-        b
-        (answer ∙ ap₂ (λ (n x : ℕ). Found n x (pairCount p t)) variant end)
+        } in
+        let ties : after .tally .ties ≡ shortestCount p t =
+        ap (λ (x : Kept). x .tally .ties) (s .kept)
+        ∙ ties-are acts cap k es untied (omega (arith, number))
+        ∙ ap (λ (n : ℕ). endingOn n es) (head-eq-of-cons-eq kept)
+        ∙ ending-pairs (s .rows) (s .all) (endAt p t v row)
+        ∙ earliest-ties p t (holds .valid) v row earliest in
+        earliest-best p t (holds .valid) v row earliest b
+        (answer
+        ∙ ap₂ (λ (n x : ℕ). Found n x (pairCount p t) (after .tally .ties)) variant end
+        ∙ ap (Found v (endAt p t v row) (pairCount p t)) ties)
         (timetable ∙ tail-eq-of-cons-eq (tail-eq-of-cons-eq rank))

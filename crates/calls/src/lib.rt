@@ -1,20 +1,16 @@
-// COUNT, LIST and BEST: each judges the file, then sweeps over all variants of the plan.
+// LIST and BEST: each judges the file, then sweeps over all variants of the plan.
 ghost use mathlib.Core.Path.{_≡_};
-ghost use mathlib.Core.List.{List, [], _∷_};
-ghost use Prim.Native.Nat.{ℕ};
 ghost use Rattle.plan.specs.Plan.{planOf};
 ghost use Rattle.term.specs.Term.{Term};
 ghost use Rattle.term.specs.Variants.{variantCount};
 ghost use Rattle.judge.specs.Judge.{accepts};
 ghost use Rattle.judge.specs.Campaign.{HoldsPlan};
-ghost use Rattle.answers.specs.Count.{countBy, countOf};
 ghost use Rattle.answers.specs.Listed.{listBy, listOf};
 ghost use Rattle.answers.specs.Shortest.{bestBy, bestOf};
 ghost use Rattle.tally.specs.Seen.{kept, noTally};
 ghost use Rattle.sweep.specs.Swept.{Swept};
 use answers::Best;
 use answers::BestAnswer;
-use answers::CountAnswer;
 use answers::ListAnswer;
 use judge::Campaign;
 use parser::Verdict;
@@ -23,30 +19,21 @@ use profile::NEVER;
 use tally::Tally;
 use timetable::Timetable;
 
-// COUNT and LIST keep no schedule: none ends by tick 0.
+// LIST keeps no schedule: none ends by tick 0.
 const NONE: u32 = 0;
 
-// The sweep without rows: one cell has no room for any. A schedule that ends by `end` may be kept.
-fn tallied(campaign: Campaign, end: u32, cap: u32) -> Tally
+// The sweep from nothing, its rows into the area; one cell has room for none. A schedule that ends by `end` may be
+// kept.
+fn tallied(campaign: Campaign, end: u32, cap: u32, area: &mut [u32]) -> Tally
     requires { ⌜ ((t : Term) × HoldsPlan campaign t) ⌝ }
     ensures { λ r.
         ⌜ ((t : Term) → HoldsPlan campaign t
-        → (area : List ℕ) × Swept campaign t cap (variantCount t) (kept (noTally end) (0 ∷ [])) (kept r area)) ⌝ }
+        → Swept campaign t cap (variantCount t) (kept (noTally end) (now (area .entry)))
+        (kept r (now (area .exit)))) ⌝ }
 {
-    let mut cell = [0u32; 1];
-    sweep::sweep(campaign, Tally::none(end), cap, &mut cell)
-}
-
-// COUNT of an accepted plan.
-fn counted(campaign: Campaign, cap: u32) -> CountAnswer
-    requires { ⌜ ((t : Term) × HoldsPlan campaign t) ⌝ }
-    ensures { λ r. ⌜ ((t : Term) → HoldsPlan campaign t → r ≡ countBy (accepts (planOf (campaign .tables)) t) cap) ⌝ }
-{
-    let tally = tallied(campaign, NONE, cap);
-    if (cap as u64) < tally.count {
-        return CountAnswer::Refused(Refusal::OverCap);
-    }
-    CountAnswer::Counted(tally.count)
+    let mut cells = tally::none(end);
+    sweep::sweep(campaign, cap, &mut cells, area);
+    tally::tally_of(&cells)
 }
 
 // LIST of an accepted plan: nothing is written before it is known that all rows fit. They are written as they are
@@ -58,7 +45,8 @@ fn listed(campaign: Campaign, cap: u32, area: &mut [u32]) -> ListAnswer
         → record { answer = r; area = now (area .exit) }
         ≡ listBy (accepts (planOf (campaign .tables)) t) cap (now (area .entry))) ⌝ }
 {
-    let tally = tallied(campaign, NONE, cap);
+    let mut no_room = [0u32; 1];
+    let tally = tallied(campaign, NONE, cap, &mut no_room);
     let rows = tally.count;
     if (cap as u64) < rows {
         return ListAnswer::Refused(Refusal::OverCap);
@@ -68,7 +56,7 @@ fn listed(campaign: Campaign, cap: u32, area: &mut [u32]) -> ListAnswer
     if (area.len() as u64) < needed {
         return ListAnswer::Refused(Refusal::AreaTooShort(needed));
     }
-    sweep::sweep(campaign, Tally::none(NONE), cap, area);
+    tallied(campaign, NONE, cap, area);
     sorting::sort_rows(area, tables.acts + 1, rows as usize);
     ListAnswer::Listed(rows)
 }
@@ -78,7 +66,8 @@ fn shortest(campaign: Campaign, cap: u32) -> Best
     requires { ⌜ ((t : Term) × HoldsPlan campaign t) ⌝ }
     ensures { λ r. ⌜ ((t : Term) → HoldsPlan campaign t → r ≡ bestBy (accepts (planOf (campaign .tables)) t) cap) ⌝ }
 {
-    let tally = tallied(campaign, NEVER, cap);
+    let mut no_room = [0u32; 1];
+    let tally = tallied(campaign, NEVER, cap, &mut no_room);
     if (cap as u64) < tally.count {
         return Best {
             answer: BestAnswer::Refused(Refusal::OverCap),
@@ -91,25 +80,13 @@ fn shortest(campaign: Campaign, cap: u32) -> Best
             variant: tally.best_variant,
             makespan: tally.best_end,
             count: tally.count,
+            shortest: tally.ties,
         },
         timetable,
     }
 }
 
-// COUNT: the number of active sessions of all variants, each counted once.
-pub fn count(file: &[u8], cap: u32) -> CountAnswer
-    ensures { λ r. ⌜ r ≡ countOf (now (file .entry)) cap ⌝ }
-{
-    let judged = judge::judge(file);
-    let verdict = judged.verdict;
-    let campaign = judged.campaign;
-    match verdict {
-        Verdict::Accepted => counted(campaign, cap),
-        Verdict::Refused(r) => CountAnswer::Refused(r),
-    }
-}
-
-// LIST: the rows of COUNT's pairs in their order, from the front of the area.
+// LIST: the rows of the pairs in their order, from the front of the area.
 pub fn list(file: &[u8], cap: u32, area: &mut [u32]) -> ListAnswer
     ensures { λ r.
         ⌜ record { answer = r; area = now (area .exit) }
@@ -124,7 +101,8 @@ pub fn list(file: &[u8], cap: u32, area: &mut [u32]) -> ListAnswer
     }
 }
 
-// BEST: the first of COUNT's pairs that are shortest, and COUNT's number. What holds of it is the theorem `demand-3`.
+// BEST: the first of the pairs that are shortest, how many pairs there are, and how many of them are shortest. What
+// holds of it is in the theorems `demand-3` and `first-shortest-row`.
 pub fn best(file: &[u8], cap: u32) -> Best
     ensures { λ r. ⌜ r ≡ bestOf (now (file .entry)) cap ⌝ }
 {

@@ -30,15 +30,15 @@ use Rattle.answers.specs.Shortest.{noBest}
 use Rattle.answers.specs.declared.BestAnswer.the-variants.{Found}
 use Rattle.scan.specs.Components.{merged, componentBelow}
 use Rattle.scan.specs.Scan.{readyTick, held, hasRoom, combinationsFrom, move, freeze, delete, attach, begun}
-use Rattle.campaigns.specs.Table.{Row, reads, has-variants, writes, checks, counts, lists, spans, finds, stops}
+use Rattle.campaigns.specs.Table.{Row, reads, has-variants, writes, checks, lists, spans, finds, stops}
 use Rattle.campaigns.specs.Table.{Holds, table, timetable, sevens, lent}
 use Rattle.campaigns.proofs.Quick.{quickFits, nextEnd, quickFrom, quickFit, shiftBy, completedBy, schedulesBy}
-use Rattle.campaigns.proofs.Searched.{isFirst, found, countModel, count-is, listModel, list-is, bestModel}
-use Rattle.campaigns.proofs.Searched.{best-is, spansModel, hasModel, spans-is}
+use Rattle.campaigns.proofs.Searched.{isFirst, found, listModel, list-is, bestModel, best-is, spansModel}
+use Rattle.campaigns.proofs.Searched.{hasModel, spans-is}
 use Rattle.campaigns.proofs.Checked.{withinAtStarts, checkModel, check-is}
 use Rattle.campaigns.proofs.Variants.{variantsBy, variants-are}
-use Rattle.campaigns.proofs.Tests.{sameNumber, number-same, sameList, list-same, sameCount, count-same}
-use Rattle.campaigns.proofs.Tests.{sameRead, read-same, sameWrite, write-same, sameCheck, check-same}
+use Rattle.campaigns.proofs.Tests.{sameNumber, number-same, sameList, list-same, sameRead, read-same}
+use Rattle.campaigns.proofs.Tests.{sameWrite, write-same, sameCheck, check-same}
 use Rattle.campaigns.proofs.Tests.{sameListing, listing-same, sameBest, best-same, sameOutcome, outcome-same}
 
 abbrev test : Row → Bool
@@ -48,14 +48,13 @@ test (writes s v bytes) =
     sameOutcome sameWrite (writeOf s v lent)
     (record { answer = Written (length bytes); area = bytes ++ drop (length bytes) lent })
 test (checks s v starts answer) = sameCheck (checkModel s v starts) answer
-test (counts s cap answer) = sameCount (countModel s cap) answer
 test (lists s cap cells answer rows) =
     sameOutcome sameListing (listModel s cap (sevens cells))
     (record { answer = answer; area = cellsOf rows ++ drop (length (cellsOf rows)) (sevens cells) })
 test (spans s v makespans) = hasModel s v && sameList (spansModel s v) makespans
-test (finds s cap v span count starts) =
+test (finds s cap v span count shortest starts) =
     sameBest (bestModel s cap)
-    (record { answer = Found v span count; timetable = record { starts = timetable starts } })
+    (record { answer = Found v span count shortest; timetable = record { starts = timetable starts } })
 test (stops s cap r) = sameBest (bestModel s cap) (noBest r)
 
 test-holds : (row : Row) → test row ≡ true → Holds row
@@ -63,13 +62,12 @@ test-holds (reads s answer) e = read-by s ∙ read-same (readBy s) answer e
 test-holds (has-variants s n) e = variants-are s n (number-same (variantsBy s) n e)
 test-holds (writes s v bytes) e = outcome-same sameWrite write-same (writeOf s v lent) _ e
 test-holds (checks s v starts answer) e = check-is s v starts ∙ check-same (checkModel s v starts) answer e
-test-holds (counts s cap answer) e = count-is s cap ∙ count-same (countModel s cap) answer e
 test-holds (lists s cap cells answer rows) e =
     list-is s cap (sevens cells) ∙ outcome-same sameListing listing-same (listModel s cap (sevens cells)) _ e
 test-holds (spans s v makespans) e =
     spans-is s v makespans (and-left (hasModel s v) _ e)
     (list-same (spansModel s v) makespans (and-right (hasModel s v) _ e))
-test-holds (finds s cap v span count starts) e = best-is s cap ∙ best-same (bestModel s cap) _ e
+test-holds (finds s cap v span count shortest starts) e = best-is s cap ∙ best-same (bestModel s cap) _ e
 test-holds (stops s cap r) e = best-is s cap ∙ best-same (bestModel s cap) _ e
 
 all-pass : every test table ≡ true
@@ -77,8 +75,8 @@ unfolding table readBy variantsBy parse planLines aLine tested theLines theEnd t
     digits isValue decimal termOf forest place size firsts others activities member some-of count clash share writeOf
     checkModel judge twice repeats variants paired variantCount written variantPlan dissolved joined text capacityLines
     actLines nodeLines filled Lines.numeral nodes isMarked placed inOrder withinAtStarts load latestEnd earliestStart
-    makespan everyBelow sumBelow maxBelow projectOf precedes countModel listModel spansModel hasModel bestModel found
-    sorted keep cellsOf gather isFirst merged componentBelow readyTick held hasRoom quickFits nextEnd quickFrom quickFit
+    makespan everyBelow sumBelow maxBelow projectOf precedes listModel spansModel hasModel bestModel found sorted keep
+    cellsOf gather isFirst merged componentBelow readyTick held hasRoom quickFits nextEnd quickFrom quickFit
     combinationsFrom move freeze shiftBy delete attach begun completedBy schedulesBy
 all-pass = refl
 

@@ -1,5 +1,5 @@
--- COUNT, LIST, BEST and the makespans of a variant, as the scan computes them: the rows that it finds are the pairs,
--- once they are sorted.
+-- LIST, BEST and the makespans of a variant, as the scan computes them: the rows that it finds are the pairs, once they
+-- are sorted.
 use Prim.Native.Nat.{ℕ, suc, _*_, _<_}
 use native.Mathlib.Decide.{ℕ-discrete}
 use native.Mathlib.Omega.{arith}
@@ -34,14 +34,11 @@ use Rattle.variant.specs.Pairs.{sessionsOf, isNew, pairs, pairCount}
 use Rattle.variant.specs.Timetable.{timetableOf}
 use Rattle.judge.specs.Judge.{Verdict, accepts, refuses, judge}
 use Rattle.judge.proofs.Accepts.{accepted-valid}
-use Rattle.answers.specs.Count.{countOf, countBy, countWithin}
 use Rattle.answers.specs.Listed.{listWithin, listBy, listOf}
-use Rattle.answers.specs.Shortest.{rowVariant, rowStarts, rowSpan, shortestPairs, firstShortest, noBest, bestWithin}
-use Rattle.answers.specs.Shortest.{bestBy, bestOf}
+use Rattle.answers.specs.Shortest.{rowVariant, rowStarts, rowSpan, shortestPairs, shortestCount, firstShortest, noBest}
+use Rattle.answers.specs.Shortest.{bestWithin, bestBy, bestOf}
 use Rattle.answers.specs.declared.Best.{Best}
 use Rattle.answers.specs.declared.BestAnswer.the-variants.{Found}
-use Rattle.answers.specs.declared.CountAnswer.{CountAnswer}
-use Rattle.answers.specs.declared.CountAnswer.the-variants as CountAnswers
 use Rattle.answers.specs.declared.ListAnswer.{ListAnswer}
 use Rattle.answers.specs.declared.ListAnswer.the-variants.{Listed, Refused}
 use Rattle.plan_exact.proofs.Rows.{rows-sorted}
@@ -108,24 +105,6 @@ found-is s p t e =
     let valid : Valid p t = accepted-valid s p t e .0 in
     sym (rows-sorted p t (allRows p t) (all-perm p t valid))
 
--- COUNT, by the rows.
-abbrev countVerdict : Verdict → ℕ → CountAnswer
-countVerdict (accepts p t) cap = countWithin (leb (length (found p t)) cap) (length (found p t))
-countVerdict (refuses r) cap = CountAnswers.Refused r
-
-unfoldable pub countModel : List ℕ → ℕ → CountAnswer
-countModel s cap = countVerdict (judge s) cap
-
-count-verdict : (s : List ℕ) (cap : ℕ) (o : Verdict) → judge s ≡ o → countBy o cap ≡ countVerdict o cap
-unfolding pairCount
-count-verdict s cap (accepts p t) e =
-    ap (λ (rows : List (List ℕ)). countWithin (leb (length rows) cap) (length rows)) (found-is s p t e)
-count-verdict s cap (refuses r) e = refl
-
-pub count-is : (s : List ℕ) (cap : ℕ) → countOf s cap ≡ countModel s cap
-unfolding countOf countModel
-count-is s cap = count-verdict s cap (judge s) refl
-
 -- LIST, by rows of so many cells.
 abbrev listRows : Bool → Bool → List (List ℕ) → ℕ → List ℕ → Outcome ListAnswer
 listRows false fits rows width area = record { answer = Refused OverCap; area = area }
@@ -166,14 +145,14 @@ unfolding listOf listModel
 list-is s cap area = list-verdict s cap area (judge s) refl
 
 -- BEST, by the rows.
-abbrev firstOf : Plan → Term → List (List ℕ) → List ℕ
-firstOf p t rows = getD (keep (λ row. eqb (rowSpan p t row) (leastOf (map (rowSpan p t) rows))) rows) 0 []
+abbrev shortestOf : Plan → Term → List (List ℕ) → List (List ℕ)
+shortestOf p t rows = keep (λ row. eqb (rowSpan p t row) (leastOf (map (rowSpan p t) rows))) rows
 
 abbrev bestRows : Bool → Plan → Term → List (List ℕ) → Best
 bestRows true p t rows =
-    let row : List ℕ = firstOf p t rows in
+    let row : List ℕ = getD (shortestOf p t rows) 0 [] in
     record {
-      answer = Found (rowVariant row) (rowSpan p t row) (length rows);
+      answer = Found (rowVariant row) (rowSpan p t row) (length rows) (length (shortestOf p t rows));
       timetable = record { starts = timetableOf p (rowStarts row) };
     }
 bestRows false p t rows = noBest OverCap
@@ -186,7 +165,7 @@ unfoldable pub bestModel : List ℕ → ℕ → Best
 bestModel s cap = bestVerdict (judge s) cap
 
 best-rows : (a : Bool) (p : Plan) (t : Term) → bestWithin a p t ≡ bestRows a p t (pairs p t)
-unfolding pairCount firstShortest shortestPairs
+unfolding pairCount shortestCount firstShortest shortestPairs
 best-rows true p t = refl
 best-rows false p t = refl
 

@@ -18,8 +18,6 @@ use Rattle.read.specs.declared.ReadAnswer.the-variants.{Read, Refused}
 use Rattle.base.proofs.Bools.{and-left, and-right}
 use Rattle.write.specs.declared.WriteAnswer.{WriteAnswer}
 use Rattle.write.specs.declared.WriteAnswer.the-variants as Write
-use Rattle.answers.specs.declared.CountAnswer.{CountAnswer}
-use Rattle.answers.specs.declared.CountAnswer.the-variants as Count
 use Rattle.answers.specs.declared.Best.{Best}
 use Rattle.answers.specs.declared.BestAnswer.{BestAnswer}
 use Rattle.answers.specs.declared.BestAnswer.the-variants as Shortest
@@ -100,7 +98,7 @@ list-same (x ∷ xs) [] e = absurd (false≢true e)
 list-same (x ∷ xs) (y ∷ ys) e =
     ap₂ _∷_ (eqb-true x y (and-left _ _ e)) (list-same xs ys (and-right (eqb x y) _ e))
 
--- Several answers are a number or a refusal: they are compared as such, once.
+-- What WRITE and LIST answer is a number or a refusal: it is compared as such, once.
 abbrev sameEither : ℕ ⊎ Refusal → ℕ ⊎ Refusal → Bool
 sameEither (inl n) (inl m) = eqb n m
 sameEither (inl n) (inr r) = false
@@ -153,24 +151,6 @@ check-same (Check.Checked a) (Check.Refused r) e = absurd (false≢true e)
 check-same (Check.Refused r) (Check.Checked a) e = absurd (false≢true e)
 check-same (Check.Refused r) (Check.Refused r′) e = ap Check.Refused (refusal-same r r′ e)
 
-abbrev splitCount : CountAnswer → ℕ ⊎ Refusal
-splitCount (Count.Counted n) = inl n
-splitCount (Count.Refused r) = inr r
-
-abbrev joinCount : ℕ ⊎ Refusal → CountAnswer
-joinCount (inl n) = Count.Counted n
-joinCount (inr r) = Count.Refused r
-
-count-whole : (a : CountAnswer) → joinCount (splitCount a) ≡ a
-count-whole (Count.Counted n) = refl
-count-whole (Count.Refused r) = refl
-
-abbrev pub sameCount : CountAnswer → CountAnswer → Bool
-sameCount a b = sameEither (splitCount a) (splitCount b)
-
-pub count-same : (a b : CountAnswer) → sameCount a b ≡ true → a ≡ b
-count-same = split-same splitCount joinCount count-whole
-
 abbrev splitListing : ListAnswer → ℕ ⊎ Refusal
 splitListing (Listing.Listed n) = inl n
 splitListing (Listing.Refused r) = inr r
@@ -201,20 +181,22 @@ module _ {A : Type 0} (same : A → A → Bool) where
       λ i. record { answer = x i; area = y i }
 
 abbrev sameFound : BestAnswer → BestAnswer → Bool
-sameFound (Shortest.Found v n k) (Shortest.Found v′ n′ k′) = eqb v v′ && (eqb n n′ && eqb k k′)
-sameFound (Shortest.Found v n k) (Shortest.Refused r) = false
-sameFound (Shortest.Refused r) (Shortest.Found v n k) = false
+sameFound (Shortest.Found v n k l) (Shortest.Found v′ n′ k′ l′) = eqb v v′ && (eqb n n′ && (eqb k k′ && eqb l l′))
+sameFound (Shortest.Found v n k l) (Shortest.Refused r) = false
+sameFound (Shortest.Refused r) (Shortest.Found v n k l) = false
 sameFound (Shortest.Refused r) (Shortest.Refused r′) = sameRefusal r r′
 
 found-same : (a b : BestAnswer) → sameFound a b ≡ true → a ≡ b
-found-same (Shortest.Found v n k) (Shortest.Found v′ n′ k′) e =
+found-same (Shortest.Found v n k l) (Shortest.Found v′ n′ k′ l′) e =
     let rest = and-right (eqb v v′) _ e in
+    let last = and-right (eqb n n′) _ rest in
     let ev = eqb-true v v′ (and-left _ _ e) in
     let en = eqb-true n n′ (and-left _ _ rest) in
-    let ek = eqb-true k k′ (and-right (eqb n n′) _ rest) in
+    let ek = eqb-true k k′ (and-left _ _ last) in
+    let el = eqb-true l l′ (and-right (eqb k k′) _ last) in
     cc
-found-same (Shortest.Found v n k) (Shortest.Refused r) e = absurd (false≢true e)
-found-same (Shortest.Refused r) (Shortest.Found v n k) e = absurd (false≢true e)
+found-same (Shortest.Found v n k l) (Shortest.Refused r) e = absurd (false≢true e)
+found-same (Shortest.Refused r) (Shortest.Found v n k l) e = absurd (false≢true e)
 found-same (Shortest.Refused r) (Shortest.Refused r′) e = ap Shortest.Refused (refusal-same r r′ e)
 
 abbrev pub sameBest : Best → Best → Bool

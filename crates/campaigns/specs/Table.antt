@@ -21,13 +21,9 @@ use Rattle.schedule.specs.Schedule.{makespan}
 use Rattle.schedule.specs.Sessions.{sessions, startsOf}
 use Rattle.variant.specs.Project.{projectOf, variantAt}
 use Rattle.judge.specs.Judge.{accepts, judge}
-use Rattle.answers.specs.Count.{countOf}
 use Rattle.answers.specs.Listed.{listOf}
 use Rattle.answers.specs.Shortest.{noBest, bestOf}
 use Rattle.answers.specs.declared.BestAnswer.the-variants.{Found}
-use Rattle.answers.specs.declared.CountAnswer.{CountAnswer}
-use Rattle.answers.specs.declared.CountAnswer.the-variants.{Counted}
-use Rattle.answers.specs.declared.CountAnswer.the-variants as CountAnswers
 use Rattle.answers.specs.declared.ListAnswer.{ListAnswer}
 use Rattle.answers.specs.declared.ListAnswer.the-variants.{Listed}
 use Rattle.answers.specs.declared.ListAnswer.the-variants as ListAnswers
@@ -71,12 +67,11 @@ pub data Row : Type 0 where
   has-variants : List ℕ → ℕ → Row
   writes : List ℕ → ℕ → List ℕ → Row
   checks : List ℕ → ℕ → List ℕ → CheckAnswer → Row
-  counts : List ℕ → ℕ → CountAnswer → Row
   -- LIST into an area of so many cells: the answer, and the rows from the front
   lists : List ℕ → ℕ → ℕ → ListAnswer → List (List ℕ) → Row
   spans : List ℕ → ℕ → List ℕ → Row
-  -- BEST: its variant, its makespan, COUNT's number and the starts
-  finds : List ℕ → ℕ → ℕ → ℕ → ℕ → List ℕ → Row
+  -- BEST: its variant, its makespan, the number of rows, how many of them are shortest, and the starts
+  finds : List ℕ → ℕ → ℕ → ℕ → ℕ → ℕ → List ℕ → Row
   stops : List ℕ → ℕ → Refusal → Row
 
 -- The file's lines say a plan whose nodes are one whole term with n variants, be they too many or not.
@@ -105,13 +100,12 @@ Holds (has-variants s n) = HasVariants s n
 Holds (writes s v bytes) =
     writeOf s v lent ≡ record { answer = Written (length bytes); area = bytes ++ drop (length bytes) lent }
 Holds (checks s v starts answer) = checkOf s v starts ≡ answer
-Holds (counts s cap answer) = countOf s cap ≡ answer
 Holds (lists s cap cells answer rows) =
     listOf s cap (sevens cells)
     ≡ record { answer = answer; area = cellsOf rows ++ drop (length (cellsOf rows)) (sevens cells) }
 Holds (spans s v makespans) = Spans s v makespans
-Holds (finds s cap v span count starts) =
-    bestOf s cap ≡ record { answer = Found v span count; timetable = record { starts = timetable starts } }
+Holds (finds s cap v span count shortest starts) =
+    bestOf s cap ≡ record { answer = Found v span count shortest; timetable = record { starts = timetable starts } }
 Holds (stops s cap r) = bestOf s cap ≡ noBest r
 
 abbrev pub dotTest : List ℕ
@@ -474,9 +468,6 @@ table =
     -- The dot test: variant 1 has two sessions of makespan 11, variant 0 one of 10. Caps on both sides of their number.
     ∷ spans dotTest 0 (10 ∷ [])
     ∷ spans dotTest 1 (11 ∷ 11 ∷ [])
-    ∷ counts dotTest 3 (Counted 3)
-    ∷ counts dotTest 2 (CountAnswers.Refused OverCap)
-    ∷ counts dotTest 0 (CountAnswers.Refused OverCap)
     ∷ lists dotTest 3 20 (Listed 3) dotRows
     ∷ lists dotTest 3 18 (Listed 3) dotRows
     ∷ lists dotTest 3 17 (ListAnswers.Refused (AreaTooShort 18)) []
@@ -485,9 +476,6 @@ table =
     -- Activity 0 under both picks of an x: one session of both variants, which counts once, under variant 0.
     ∷ spans twiceUnderX 0 (1 ∷ [])
     ∷ spans twiceUnderX 1 (1 ∷ [])
-    ∷ counts twiceUnderX 9 (Counted 1)
-    ∷ counts twiceUnderX 1 (Counted 1)
-    ∷ counts twiceUnderX 0 (CountAnswers.Refused OverCap)
     ∷ lists twiceUnderX 1 4 (Listed 1) ((0 ∷ 0 ∷ []) ∷ [])
     ∷ lists twiceUnderX 1 2 (Listed 1) ((0 ∷ 0 ∷ []) ∷ [])
     ∷ lists twiceUnderX 1 1 (ListAnswers.Refused (AreaTooShort 2)) []
@@ -495,23 +483,16 @@ table =
     ∷ spans threeOrders 0 (3 ∷ [])
     ∷ spans threeOrders 1 (3 ∷ [])
     ∷ spans threeOrders 2 (3 ∷ 3 ∷ [])
-    ∷ counts threeOrders 3 (Counted 2)
-    ∷ counts threeOrders 2 (Counted 2)
-    ∷ counts threeOrders 1 (CountAnswers.Refused OverCap)
     ∷ lists threeOrders 2 6 (Listed 2) ((0 ∷ 0 ∷ 1 ∷ []) ∷ (1 ∷ 2 ∷ 0 ∷ []) ∷ [])
     ∷ lists threeOrders 2 5 (ListAnswers.Refused (AreaTooShort 6)) []
     -- The session of variant 1 is not active for variant 0, so it counts under variant 1.
     ∷ spans feasibleBelow 0 (2 ∷ [])
     ∷ spans feasibleBelow 1 (3 ∷ [])
-    ∷ counts feasibleBelow 2 (Counted 2)
-    ∷ counts feasibleBelow 1 (CountAnswers.Refused OverCap)
     ∷ lists feasibleBelow 2 6 (Listed 2) ((0 ∷ 0 ∷ 0 ∷ []) ∷ (1 ∷ 0 ∷ 1 ∷ []) ∷ [])
     ∷ lists feasibleBelow 2 5 (ListAnswers.Refused (AreaTooShort 6)) []
     -- The sessions of both variants start on tick 0, with other activities: they count apart.
     ∷ spans otherActivities 0 (1 ∷ [])
     ∷ spans otherActivities 1 (1 ∷ [])
-    ∷ counts otherActivities 2 (Counted 2)
-    ∷ counts otherActivities 1 (CountAnswers.Refused OverCap)
     ∷ lists otherActivities 2 6 (Listed 2) ((0 ∷ 0 ∷ absent ∷ []) ∷ (1 ∷ absent ∷ 0 ∷ []) ∷ [])
     ∷ lists otherActivities 2 5 (ListAnswers.Refused (AreaTooShort 6)) []
     -- Two contested resources on one tick; a free resource that has to wait; three sessions that are equally long;
@@ -527,71 +508,66 @@ table =
     -- Starts and makespans over 65535.
     ∷ reads soak (Read 6 10 1)
     ∷ spans soak 0 (108000 ∷ 96000 ∷ 88000 ∷ 92000 ∷ [])
-    ∷ counts soak 4 (Counted 4)
     ∷ lists soak 4 28 (Listed 4) soakRows
     ∷ lists soak 4 27 (ListAnswers.Refused (AreaTooShort 28)) []
-    -- Edition 2: sessions, their makespans and caps on both sides of their number.
+    -- Edition 2: sessions and their makespans.
     ∷ spans twoArmBench 0 (11 ∷ 10 ∷ 12 ∷ 11 ∷ 9 ∷ 11 ∷ 10 ∷ 9 ∷ 11 ∷ [])
-    ∷ counts twoArmBench 9 (Counted 9)
-    ∷ counts twoArmBench 8 (CountAnswers.Refused OverCap)
     ∷ lists twoArmBench 9 55 (Listed 9) twoArmBenchRows
     ∷ lists twoArmBench 9 53 (ListAnswers.Refused (AreaTooShort 54)) []
     ∷ spans twoArms 0 (4 ∷ 5 ∷ 5 ∷ 4 ∷ 5 ∷ 5 ∷ 4 ∷ 4 ∷ 5 ∷ 5 ∷ 5 ∷ [])
-    ∷ counts twoArms 11 (Counted 11)
     ∷ lists twoArms 11 55 (Listed 11) twoArmsRows
     ∷ spans armAndCamera 0 (5 ∷ 7 ∷ 5 ∷ 5 ∷ [])
-    ∷ counts armAndCamera 4 (Counted 4)
     ∷ lists armAndCamera 4 20 (Listed 4) armAndCameraRows
     ∷ spans bothArms 0 (7 ∷ 9 ∷ 7 ∷ [])
-    ∷ counts bothArms 3 (Counted 3)
     ∷ lists bothArms 3 12 (Listed 3) ((0 ∷ 0 ∷ 3 ∷ 3 ∷ []) ∷ (0 ∷ 2 ∷ 0 ∷ 5 ∷ []) ∷ (0 ∷ 4 ∷ 0 ∷ 0 ∷ []) ∷ [])
     ∷ spans sharedThreeWays 0 (4 ∷ 5 ∷ 5 ∷ 5 ∷ 4 ∷ 4 ∷ 5 ∷ [])
-    ∷ counts sharedThreeWays 7 (Counted 7)
     ∷ lists sharedThreeWays 7 35 (Listed 7) sharedThreeWaysRows
     ∷ spans withoutResource 0 (5 ∷ 5 ∷ [])
-    ∷ counts withoutResource 2 (Counted 2)
     ∷ lists withoutResource 2 8 (Listed 2) ((0 ∷ 0 ∷ 2 ∷ 0 ∷ []) ∷ (0 ∷ 3 ∷ 0 ∷ 0 ∷ []) ∷ [])
     -- The last variant of the longest file.
     ∷ spans longestFile 62 (20000 ∷ [])
     -- The dot test's listing in both editions.
     ∷ spans dotTestUnits 1 (11 ∷ 11 ∷ [])
-    ∷ counts dotTestUnits 3 (Counted 3)
     ∷ lists dotTestUnits 3 18 (Listed 3) dotRows
     -- Side by side the two do not wait for each other, so that each variant has a session of its own.
     ∷ lists threeOrdersUnits 3 9 (Listed 3) ((0 ∷ 0 ∷ 1 ∷ []) ∷ (1 ∷ 2 ∷ 0 ∷ []) ∷ (2 ∷ 0 ∷ 0 ∷ []) ∷ [])
     -- BEST. The dot test with the program's cap, and caps on both sides of the number of its sessions.
-    ∷ finds dotTest 1000000 0 10 3 (0 ∷ absent ∷ absent ∷ 4 ∷ 4 ∷ [])
-    ∷ finds dotTest 3 0 10 3 (0 ∷ absent ∷ absent ∷ 4 ∷ 4 ∷ [])
+    ∷ finds dotTest 1000000 0 10 3 1 (0 ∷ absent ∷ absent ∷ 4 ∷ 4 ∷ [])
+    ∷ finds dotTest 3 0 10 3 1 (0 ∷ absent ∷ absent ∷ 4 ∷ 4 ∷ [])
     ∷ stops dotTest 2 OverCap
     ∷ stops dotTest 0 OverCap
-    -- One session of both variants, and caps on both sides of that number; sessions of variants 0 and 1 that are
-    -- equally long, and 0 goes first; the shorter one of variant 0; plans that the reader turns back.
-    ∷ finds twiceUnderX 1000000 0 1 1 (0 ∷ [])
-    ∷ finds twiceUnderX 1 0 1 1 (0 ∷ [])
+    -- One session of both variants; sessions of variants 0 and 1 that are equally long, and 0 goes first; the shorter
+    -- one of variant 0; caps on both sides of each number. Plans that the reader turns back.
+    ∷ finds twiceUnderX 1000000 0 1 1 1 (0 ∷ [])
+    ∷ finds twiceUnderX 1 0 1 1 1 (0 ∷ [])
     ∷ stops twiceUnderX 0 OverCap
-    ∷ finds threeOrders 1000000 0 3 2 (0 ∷ 1 ∷ [])
-    ∷ finds otherActivities 1000000 0 1 2 (0 ∷ absent ∷ [])
-    ∷ finds feasibleBelow 1000000 0 2 2 (0 ∷ 0 ∷ [])
+    ∷ finds threeOrders 2 0 3 2 2 (0 ∷ 1 ∷ [])
+    ∷ stops threeOrders 1 OverCap
+    ∷ finds otherActivities 2 0 1 2 2 (0 ∷ absent ∷ [])
+    ∷ stops otherActivities 1 OverCap
+    ∷ finds feasibleBelow 2 0 2 2 1 (0 ∷ 0 ∷ [])
+    ∷ stops feasibleBelow 1 OverCap
     ∷ stops twiceUnderP 1000000 Twice
     ∷ stops groupOfOne 1000000 (GroupOfOne 6)
     -- Two contested resources on one tick; 22 is missed if a free resource never waits; the first of the three,
     -- whatever is found first; document 000, Example 2, second term: the first of five.
-    ∷ finds twoContested 1000000 0 2 4 (0 ∷ 1 ∷ 0 ∷ 1 ∷ [])
-    ∷ finds freeResourceWaits 1000000 0 22 2 (2 ∷ 0 ∷ 1 ∷ 2 ∷ [])
-    ∷ finds threeShortest 1000000 0 3 3 (1 ∷ 2 ∷ 0 ∷ [])
-    ∷ finds example2 1000000 0 5 12 (0 ∷ 0 ∷ 2 ∷ 2 ∷ 3 ∷ 1 ∷ 0 ∷ 3 ∷ [])
+    ∷ finds twoContested 1000000 0 2 4 4 (0 ∷ 1 ∷ 0 ∷ 1 ∷ [])
+    ∷ finds freeResourceWaits 1000000 0 22 2 1 (2 ∷ 0 ∷ 1 ∷ 2 ∷ [])
+    ∷ finds threeShortest 1000000 0 3 3 3 (1 ∷ 2 ∷ 0 ∷ [])
+    ∷ finds example2 1000000 0 5 12 5 (0 ∷ 0 ∷ 2 ∷ 2 ∷ 3 ∷ 1 ∷ 0 ∷ 3 ∷ [])
     -- A shortest session that is longer than 65535, the third of four.
-    ∷ finds soak 1000000 0 88000 4 (20000 ∷ 36000 ∷ 0 ∷ 20000 ∷ 48000 ∷ 68000 ∷ [])
+    ∷ finds soak 4 0 88000 4 1 (20000 ∷ 36000 ∷ 0 ∷ 20000 ∷ 48000 ∷ 68000 ∷ [])
     ∷ stops soak 3 OverCap
     -- Edition 2: the first of several that are equally short; the dot test's answer in both editions.
-    ∷ finds twoArmBench 1000000 0 9 9 (0 ∷ 4 ∷ 7 ∷ 0 ∷ 0 ∷ [])
-    ∷ finds twoArms 1000000 0 4 11 (0 ∷ 0 ∷ 2 ∷ 3 ∷ [])
-    ∷ finds armAndCamera 1000000 0 5 4 (0 ∷ 2 ∷ 0 ∷ 2 ∷ [])
-    ∷ finds bothArms 1000000 0 7 3 (0 ∷ 3 ∷ 3 ∷ [])
-    ∷ finds sharedThreeWays 1000000 0 4 7 (0 ∷ 0 ∷ 0 ∷ 2 ∷ [])
-    ∷ finds withoutResource 1000000 0 5 2 (0 ∷ 2 ∷ 0 ∷ [])
-    ∷ finds dotTestUnits 3 0 10 3 (0 ∷ absent ∷ absent ∷ 4 ∷ 4 ∷ [])
+    ∷ finds twoArmBench 9 0 9 9 2 (0 ∷ 4 ∷ 7 ∷ 0 ∷ 0 ∷ [])
+    ∷ stops twoArmBench 8 OverCap
+    ∷ finds twoArms 11 0 4 11 4 (0 ∷ 0 ∷ 2 ∷ 3 ∷ [])
+    ∷ finds armAndCamera 4 0 5 4 3 (0 ∷ 2 ∷ 0 ∷ 2 ∷ [])
+    ∷ finds bothArms 3 0 7 3 2 (0 ∷ 3 ∷ 3 ∷ [])
+    ∷ finds sharedThreeWays 7 0 4 7 3 (0 ∷ 0 ∷ 0 ∷ 2 ∷ [])
+    ∷ finds withoutResource 2 0 5 2 2 (0 ∷ 2 ∷ 0 ∷ [])
+    ∷ finds dotTestUnits 3 0 10 3 1 (0 ∷ absent ∷ absent ∷ 4 ∷ 4 ∷ [])
     ∷ stops dotTestUnits 2 OverCap
-    ∷ finds atCapacity 1000000 0 1 1 (0 ∷ [])
+    ∷ finds atCapacity 1000000 0 1 1 1 (0 ∷ [])
     ∷ stops overCapacity 1000000 (OverCapacity 5)
     ∷ []

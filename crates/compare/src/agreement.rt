@@ -1,10 +1,9 @@
 // Whether the planner's answers on a file are what the enumerator found. `own` has the enumerator's rows.
 use crate::rows::Row;
+use crate::rows::first_shortest;
 use crate::rows::hold;
 use crate::rows::is_same;
-use crate::rows::shortest;
 use answers::BestAnswer;
-use answers::CountAnswer;
 use answers::ListAnswer;
 use enumerator::Enumerated;
 use plain::ACTS;
@@ -49,14 +48,6 @@ pub fn read_agrees(file: &[u8], j: Judged) -> bool {
     }
 }
 
-// COUNT has the enumerator's number of active sessions, if that is within the cap.
-fn count_agrees(file: &[u8], cap: u32, e: Enumerated) -> bool {
-    match calls::count(file, cap) {
-        CountAnswer::Counted(n) => (e.count <= cap) & (n == wide(e.count)),
-        CountAnswer::Refused(r) => (cap < e.count) & is_refusal(r, 7, 0),
-    }
-}
-
 fn list_refuses(r: Refusal, cap: u32, cells: usize, e: Enumerated) -> bool {
     if cap < e.count {
         return is_refusal(r, 7, 0);
@@ -91,7 +82,8 @@ fn is_row(variant: u64, makespan: u64, starts: [u32; ACTS], row: Row) -> bool {
     (variant == wide(row.variant)) & is_as_long & is_same(&starts, &own, ACTS)
 }
 
-// BEST has the enumerator's first shortest row, if the rows are within the cap. No feasible session is shorter.
+// BEST has the enumerator's first shortest row, the number of rows and of the shortest, if the rows are within the cap.
+// No feasible session is shorter.
 fn best_agrees(file: &[u8], cap: u32, e: Enumerated, own: &[u32]) -> bool {
     let best = calls::best(file, cap);
     let answer = best.answer;
@@ -102,10 +94,11 @@ fn best_agrees(file: &[u8], cap: u32, e: Enumerated, own: &[u32]) -> bool {
             variant,
             makespan,
             count,
+            shortest,
         } => {
-            let is_counted = (e.count <= cap) & (count == wide(e.count));
-            let is_first = is_row(variant, makespan, starts, shortest(file, e, own));
-            is_counted & is_first & (makespan == wide(e.makespan))
+            let is_counted = (count == wide(e.count)) & (shortest == wide(e.shortest));
+            let is_first = is_row(variant, makespan, starts, first_shortest(file, e, own));
+            (e.count <= cap) & is_counted & is_first & (makespan == wide(e.makespan))
         }
         BestAnswer::Refused(r) => (cap < e.count) & is_refusal(r, 7, 0),
     }
@@ -113,8 +106,7 @@ fn best_agrees(file: &[u8], cap: u32, e: Enumerated, own: &[u32]) -> bool {
 
 // The calls that take a cap, with the largest area.
 fn cap_agrees(file: &[u8], cap: u32, e: Enumerated, own: &[u32]) -> bool {
-    let is_listed = list_agrees(file, cap, CELLS, e, own);
-    count_agrees(file, cap, e) & is_listed & best_agrees(file, cap, e, own)
+    list_agrees(file, cap, CELLS, e, own) & best_agrees(file, cap, e, own)
 }
 
 // All calls, on both sides of the least cap and the least area that give an answer.
@@ -136,6 +128,7 @@ pub struct Comparison {
     pub known: bool,
     pub same: bool,
     pub count: u32,
+    pub shortest: u32,
     pub makespan: u32,
 }
 
@@ -147,6 +140,7 @@ pub fn compared(file: &[u8]) -> Comparison {
         known,
         same: known && agrees(file, e, &own),
         count: e.count,
+        shortest: e.shortest,
         makespan: e.makespan,
     }
 }

@@ -61,6 +61,7 @@ fn put_all_calls(name: &[u8], file: &[u8]) {
     let c = compared(file);
     put_agree(name, c.known, c.same);
     put_figure(b" count=", c.count as u64);
+    put_figure(b" shortest=", c.shortest as u64);
     put_figure(b" makespan=", c.makespan as u64);
     console::put(b"\n");
 }

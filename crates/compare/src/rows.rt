@@ -67,7 +67,7 @@ fn row_at(file: &[u8], area: &[u32], at: usize, acts: usize) -> Row {
 }
 
 // The first row of the least makespan, of the enumerator's rows.
-pub fn shortest(file: &[u8], e: Enumerated, own: &[u32]) -> Row {
+pub fn first_shortest(file: &[u8], e: Enumerated, own: &[u32]) -> Row {
     let mut best = row_at(file, own, 0, e.acts);
     let mut at = 0usize;
     for k in 0..e.count {

@@ -104,7 +104,7 @@ fn put_start(activity: usize, start: u32) -> bool {
     put(b"start=") && put_number(activity as u64) && put(b",") && put_line(b"", start as u64)
 }
 
-fn put_starts(timetable: Timetable) -> bool {
+pub fn put_starts(timetable: Timetable) -> bool {
     let starts = timetable.starts;
     let mut i = 0;
     while i < plan::MOST_ACTS {
@@ -116,7 +116,12 @@ fn put_starts(timetable: Timetable) -> bool {
     true
 }
 
-// A shortest session, or the refusal.
+// The variant and the makespan of a session.
+pub fn put_session(variant: u64, makespan: u64) -> bool {
+    put_line(b"variant=", variant) && put_line(b"makespan=", makespan)
+}
+
+// A shortest session and the number of active ones, or the refusal.
 pub fn put_best(best: Best) -> bool {
     let answer = best.answer;
     let timetable = best.timetable;
@@ -125,10 +130,8 @@ pub fn put_best(best: Best) -> bool {
             variant,
             makespan,
             count,
-        } => put_line(b"variant=", variant)
-            && put_line(b"makespan=", makespan)
-            && put_line(b"count=", count)
-            && put_starts(timetable),
+            shortest: _,
+        } => put_session(variant, makespan) && put_line(b"count=", count) && put_starts(timetable),
         BestAnswer::Refused(r) => put_refusal(r),
     }
 }

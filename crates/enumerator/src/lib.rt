@@ -16,13 +16,15 @@ use plain::Plan;
 pub const ABSENT: u32 = 4294967295;
 
 // The number of activities, and what the variants have together: the number of their active sessions, each counted
-// once, the least makespan of a feasible session, and how many cells the rows of the active ones take. Where the file
-// is refused, or too many starts were tried, `known` is false and the rest means nothing.
+// once, the least makespan of a feasible session, how many of the active ones have it, and how many cells the rows of
+// the active ones take. Where the file is refused, or too many starts were tried, `known` is false and the rest means
+// nothing.
 pub struct Enumerated {
     pub known: bool,
     pub acts: usize,
     pub count: u32,
     pub makespan: u32,
+    pub shortest: u32,
     pub cells: usize,
 }
 
@@ -59,6 +61,7 @@ fn unknown() -> Enumerated {
         acts: 0,
         count: 0,
         makespan: 0,
+        shortest: 0,
         cells: 0,
     }
 }
@@ -77,6 +80,7 @@ pub fn enumerate(file: &[u8], area: &mut [u32]) -> Enumerated {
         acts: s.acts,
         count: s.count,
         makespan: s.makespan,
+        shortest: s.shortest,
         cells: s.cells,
     }
 }

@@ -12,8 +12,8 @@ use plain::ACTS;
 pub const LIMIT: u32 = 1000000000;
 
 // A search under way: the number of activities, the number of the variant, one more than the sum of its durations and
-// its unit, and of all variants so far the active sessions, the least makespan, the cells of the rows and the starts
-// tried.
+// its unit, and of all variants so far the active sessions, the least makespan, the active sessions that have it, the
+// cells of the rows and the starts tried.
 pub struct Search {
     pub acts: usize,
     pub variant: u32,
@@ -21,6 +21,7 @@ pub struct Search {
     pub unit: u32,
     pub count: u32,
     pub makespan: u32,
+    pub shortest: u32,
     pub cells: usize,
     pub tried: u32,
 }
@@ -33,14 +34,18 @@ pub fn start(acts: usize) -> Search {
         unit: 0,
         count: 0,
         makespan: 4294967295,
+        shortest: 0,
         cells: 0,
         tried: 0,
     }
 }
 
-fn with_active(area: &mut [u32], starts: &[u32; ACTS], s: Search) -> Search {
+fn with_active(area: &mut [u32], starts: &[u32; ACTS], length: u32, s: Search) -> Search {
     let mut t = s;
     t.count = std::num::wrapping_add_u32(s.count, 1);
+    if length == s.makespan {
+        t.shortest = std::num::wrapping_add_u32(s.shortest, 1);
+    }
     t.cells = crate::rows::put_row(area, s.cells, s.variant, starts, s.acts);
     t
 }
@@ -60,10 +65,11 @@ fn with_session<'a>(
     t.tried = std::num::wrapping_add_u32(s.tried, multiples(s.unit, span.ticks));
     if length < s.makespan {
         t.makespan = length;
+        t.shortest = 0;
     }
     let is_active = active(rules, duration, starts, s.acts, s.unit);
     if is_active && !is_active_below(file, s.variant, starts) {
-        return with_active(area, starts, t);
+        return with_active(area, starts, length, t);
     }
     t
 }

@@ -3,8 +3,10 @@ use Prim.Native.Nat.{ℕ, suc, _-_}
 use native.Mathlib.Omega.{arith}
 use mathlib.Core.Path.{_≡_, sym, ap, ap₂, _∙_}
 use mathlib.Core.List.{List, _∷_, List·Memᴰ}
+use lib.Dec.{eqb}
 use lib.ListN.{length, take, replicate}
 use lib.Seq.{take-at}
+use Rattle.base.specs.Lists.{keep}
 use Rattle.base.specs.Order.{isBefore, NotAfter}
 use Rattle.base.proofs.Order.{first-low, rest-after, not-after-front}
 use Rattle.plan.specs.Plan.{Plan}
@@ -15,15 +17,15 @@ use Rattle.schedule.specs.Schedule.{latestEnd}
 use Rattle.schedule.specs.Sessions.{startsOf}
 use Rattle.schedule.proofs.Box.{session-is}
 use Rattle.variant.specs.Project.{variantAt, projectOf}
-use Rattle.variant.specs.Pairs.{sessionsOf, pairCount}
+use Rattle.variant.specs.Pairs.{sessionsOf, pairs, pairCount}
 use Rattle.variant.specs.Timetable.{timetableOf}
-use Rattle.answers.specs.Shortest.{rowSpan, firstShortest, bestRow}
+use Rattle.answers.specs.Shortest.{rowSpan, shortestPairs, shortestCount, firstShortest, bestRow}
 use Rattle.answers.specs.declared.Best.{Best}
 use Rattle.answers.specs.declared.BestAnswer.the-variants.{Found}
 use Rattle.plan_exact.proofs.Variant.{chosen}
 use Rattle.plan_exact.proofs.Found.{variant-span}
 use Rattle.plan_exact.proofs.Pairs.{Pair, row-pair, pair-mem}
-use Rattle.plan_exact.proofs.Shortest.{First, first-unique, first-shortest}
+use Rattle.plan_exact.proofs.Shortest.{First, first-unique, first-shortest, first-span}
 
 -- The latest end of a session of variant v.
 abbrev pub endAt : Plan → Term → ℕ → List ℕ → ℕ
@@ -48,7 +50,7 @@ module _ (p : Plan) (t : Term) (valid : Valid p t) where
   N = length (p .activities)
 
   module _ (v : ℕ) (ss : List ℕ) (pair : Pair p t v ss) where
-    span-is : endAt p t v ss ≡ rowSpan p t (v ∷ ss)
+    pub span-is : endAt p t v ss ≡ rowSpan p t (v ∷ ss)
     span-is = variant-span p t v (chosen p t v valid (pair .below)) ss (pair .session)
 
     front : take (suc N) (v ∷ timetableOf p ss) ≡ v ∷ ss
@@ -86,11 +88,20 @@ module _ (p : Plan) (t : Term) (valid : Valid p t) where
               ∙ not-after-front (suc N) (v ∷ timetableOf p ss) (u ∷ timetableOf p other) whole;
         }
 
+    same : v ∷ ss ≡ firstShortest p t
+    same = first-unique p t (v ∷ ss) (firstShortest p t) earliest-first (first-shortest p t valid)
+
+    -- As many are shortest as end on the same tick.
+    pub earliest-ties : length (keep (λ row. eqb (rowSpan p t row) (endAt p t v ss)) (pairs p t)) ≡ shortestCount p t
+    unfolding shortestCount shortestPairs
+    earliest-ties =
+        ap (λ (end : ℕ). length (keep (λ row. eqb (rowSpan p t row) end) (pairs p t)))
+        (own ∙ ap (rowSpan p t) same ∙ first-span p t valid)
+
     -- So it is what BEST answers.
-    pub earliest-best : (best : Best) → best .answer ≡ Found v (endAt p t v ss) (pairCount p t)
+    pub earliest-best : (best : Best)
+        → best .answer ≡ Found v (endAt p t v ss) (pairCount p t) (shortestCount p t)
         → best .timetable .starts ≡ timetableOf p ss → best ≡ bestRow p t (firstShortest p t)
     earliest-best best answer timetable =
-        let same : v ∷ ss ≡ firstShortest p t =
-        first-unique p t (v ∷ ss) (firstShortest p t) earliest-first (first-shortest p t valid) in
-        let told = answer ∙ ap (λ (n : ℕ). Found v n (pairCount p t)) own in
+        let told = answer ∙ ap (λ (n : ℕ). Found v n (pairCount p t) (shortestCount p t)) own in
         (λ i. record { answer = told i; timetable = record { starts = timetable i } }) ∙ ap (bestRow p t) same

@@ -1,28 +1,29 @@
 -- The listing in the words of the paper: its rows are exactly the active sessions of the variants, each once, under the
--- lowest variant that has it, and before all that follow it. The row that BEST answers is the first shortest of them.
-use Prim.Native.Nat.{ℕ, suc, _<_}
+-- lowest variant that has it, and before all that follow it. The row that BEST answers is the first shortest of them,
+-- and BEST's last number says how many are shortest.
+use Prim.Native.Nat.{ℕ, suc, _≤_, _<_}
 use native.Mathlib.Decide.{ℕ-discrete, decLt}
 use native.Mathlib.Omega.{arith}
 use mathlib.Core.Bool.{Bool, true, false, not}
 use mathlib.Core.HLevel.{¬-prop}
 use mathlib.Core.List.{List, _∷_, _++_, map, List·Mem, List·Memᴰ, Memᴰ·map, Memᴰ·of-map, Memᴰ·cast, List-discrete}
-use mathlib.Core.List.{Pairwise·imp-of-mem, Pairwise·map′}
+use mathlib.Core.List.{Pairwise·imp, Pairwise·imp-of-mem, Pairwise·map′}
 use mathlib.Core.Logic.{_≢_, by-cases, inl, inr}
 use mathlib.Core.Path.{_≡_, refl, sym, ap, ap₂, subst, _∙_}
 use lib.Dec.{leb}
 use lib.ListN.{length, drop}
-use borrow.Author.Tests.{ltb-true}
+use borrow.Author.Tests.{ltb-true, eq-eqb, eqb-true}
 use Rattle.plan.specs.Outcome.{Outcome}
 use Rattle.plan.specs.Plan.{Plan}
 use Rattle.plan.specs.declared.Refusal.{Refusal}
 use Rattle.term.specs.Term.{Term}
 use Rattle.term.specs.Variants.{variantCount, activities, member}
 use Rattle.timetable.specs.Mark.{mark}
-use Rattle.base.specs.Lists.{isOneOf, cellsOf}
+use Rattle.base.specs.Lists.{isOneOf, leastOf, cellsOf}
 use Rattle.base.specs.Order.{isBefore, Before}
 use Rattle.base.proofs.Below.{every-at, every-of}
 use Rattle.base.proofs.Bools.{by-bool, true-not-false}
-use Rattle.base.proofs.Lists.{one-of-is, one-of, mem-found, cells-length}
+use Rattle.base.proofs.Lists.{keep-is, keep-mem, keep-pairwise, one-of-is, one-of, mem-found, cells-length, least-below}
 use Rattle.base.proofs.Order.{same-first, other-first, not-self, differ-before, Smaller, before-smaller}
 use Rattle.schedule.specs.Project.{Project}
 use Rattle.schedule.specs.Schedule.{moved}
@@ -39,15 +40,15 @@ use Rattle.variant.proofs.Words.{keeps-is, keeps-of}
 use Rattle.judge.specs.Judge.{Verdict, judge, accepts, refuses}
 use Rattle.judge.proofs.Accepts.{accepted-valid}
 use Rattle.answers.specs.Listed.{cellsNeeded, listWithin, listBy, listOf}
-use Rattle.answers.specs.Shortest.{rowStarts, firstShortest}
-use Rattle.answers.specs.Words.{ActiveForSome, IsRow, StandsBefore, Listing, ListingOf, FirstShortest}
+use Rattle.answers.specs.Shortest.{rowStarts, rowSpan, shortestPairs, shortestCount, firstShortest}
+use Rattle.answers.specs.Words.{ActiveForSome, IsRow, StandsBefore, Listing, ListingOf, FirstShortest, ShortestRows}
 use Rattle.answers.specs.declared.ListAnswer.{ListAnswer}
 use Rattle.answers.specs.declared.ListAnswer.the-variants.{Listed, Refused}
 use Rattle.plan_exact.proofs.Variant.{chosen}
 use Rattle.plan_exact.proofs.Union.{session-marks, Lowest, lowest}
 use Rattle.plan_exact.proofs.Pairs.{Pair, row-pair, pair-mem}
 use Rattle.plan_exact.proofs.Rows.{pairs-ordered}
-use Rattle.plan_exact.proofs.Shortest.{First, first-shortest}
+use Rattle.plan_exact.proofs.Shortest.{First, first-shortest, first-span, spans, isShortest}
 
 -- One variant: what its list of sessions holds.
 module _ (p : Plan) (t : Term) (v : ℕ) (c : HasVariant p t v) (row : List ℕ) where
@@ -248,6 +249,30 @@ module _ (p : Plan) (t : Term) (valid : Valid p t) where
             λ other r same ne.
             before-words (firstShortest p t) other (is-row (firstShortest p t) (f .one-of)) r
             (differ-before (firstShortest p t) other (f .first other (row-is other r) same) (λ e. ne (sym e)));
+      }
+
+  pub best-shortest : ShortestRows p t (shortestCount p t)
+  unfolding shortestCount shortestPairs
+  best-shortest =
+      let below : (row : List ℕ) → IsRow p t row → leastOf (spans p t) ≤ rowSpan p t row =
+      λ row r. least-below (spans p t) (rowSpan p t row) (Memᴰ·map (rowSpan p t) (row-is row r)) in
+      let span : rowSpan p t (firstShortest p t) ≡ leastOf (spans p t) = first-span p t valid in
+      record {
+        rows = shortestPairs p t;
+        exactly = λ row. (
+          λ m.
+              let (here, y) = keep-is (isShortest p t) (pairs p t) m in
+              let own : rowSpan p t row ≡ leastOf (spans p t) = eqb-true _ _ y in
+              (is-row row here, λ other r. omega (arith, own, below other r)),
+          λ h.
+              keep-mem (isShortest p t) (pairs p t) (row-is row (h .0))
+              (eq-eqb (rowSpan p t row) (leastOf (spans p t))
+              (omega (arith, span, below row (h .0), h .1 (firstShortest p t) (best-first .one-of)))),
+        );
+        once =
+            keep-pairwise (isShortest p t) (pairs p t)
+            (Pairwise·imp (λ a b h e. true-not-false (ap (isBefore a) e ∙ h) (not-self a)) (pairs-ordered p t));
+        count = refl;
       }
 
 never : {A : Type 0} {r : Refusal} {n : ℕ} → Listed n ≡ Refused r → A

@@ -128,7 +128,7 @@ module _ (p : Plan) (t : Term) (v : ℕ) (c : HasVariant p t v) (ss : List ℕ)
       (feasible-of P (startsOf (timetableOf p ss))
       (Feasible-agree P (startsOf ss) (startsOf (timetableOf p ss)) agrees (is .is-active .is-feasible)))
 
--- CHECK says yes to every row of COUNT's pairs.
+-- CHECK says yes to every row of the pairs.
 pub pair-checks : (p : Plan) (t : Term) → Valid p t → (v : ℕ) (ss : List ℕ) → List·Memᴰ (v ∷ ss) (pairs p t)
     → isSession p (variantAt t v) (timetableOf p ss) ≡ true
 pair-checks p t valid v ss m =

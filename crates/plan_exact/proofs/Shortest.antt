@@ -3,7 +3,7 @@
 use Prim.Native.Nat.{ℕ, _≤_, _<_}
 use native.Mathlib.Nat.{le-antisymm, not-suc-le-zero}
 use native.Mathlib.Omega.{arith}
-use mathlib.Core.Bool.{Bool}
+use mathlib.Core.Bool.{Bool, true}
 use mathlib.Core.Logic.{⊎-elim}
 use mathlib.Core.Path.{_≡_, sym, subst, _∙_}
 use mathlib.Core.List.{List, [], _∷_, map, List·Memᴰ, Memᴰ·map, Memᴰ·of-map}
@@ -46,12 +46,16 @@ first-unique p t a b f g =
     let same : rowSpan p t a ≡ rowSpan p t b = le-antisymm (f .least b (g .one-of)) (g .least a (f .one-of)) in
     not-after-antisym a b (f .first b (g .one-of) (sym same)) (g .first a (f .one-of) same)
 
-module _ (p : Plan) (t : Term) (valid : Valid p t) where
-  abbrev spans : List ℕ
+module _ (p : Plan) (t : Term) where
+  abbrev pub spans : List ℕ
   spans = map (rowSpan p t) (pairs p t)
 
+  abbrev pub isShortest : List ℕ → Bool
+  isShortest row = eqb (rowSpan p t row) (leastOf spans)
+
+module _ (p : Plan) (t : Term) (valid : Valid p t) where
   -- One of the pairs has the least makespan.
-  a-shortest : (row : List ℕ) × List·Memᴰ row (pairs p t) × (rowSpan p t row ≡ leastOf spans)
+  a-shortest : (row : List ℕ) × List·Memᴰ row (pairs p t) × (rowSpan p t row ≡ leastOf (spans p t))
   unfolding pairCount
   a-shortest = of-some (pairs p t) (pairs-some p t valid)
     where
@@ -61,24 +65,31 @@ module _ (p : Plan) (t : Term) (valid : Valid p t) where
       of-some (x ∷ xs) some =
           Memᴰ·of-map (rowSpan p t) (x ∷ xs) (least-mem (rowSpan p t x) (map (rowSpan p t) xs))
 
+  -- The first of those that have it.
+  first-there : List·Memᴰ (firstShortest p t) (pairs p t) × (isShortest p t (firstShortest p t) ≡ true)
+  unfolding firstShortest shortestPairs
+  first-there =
+      let (row, m, e) = a-shortest in
+      let kept = keep-mem (isShortest p t) (pairs p t) m (eq-eqb (rowSpan p t row) (leastOf (spans p t)) e) in
+      keep-is (isShortest p t) (pairs p t) (first-mem (shortestPairs p t) [] kept)
+
+  pub first-span : rowSpan p t (firstShortest p t) ≡ leastOf (spans p t)
+  first-span = eqb-true _ _ (first-there .1)
+
   pub first-shortest : First p t (firstShortest p t)
   unfolding firstShortest shortestPairs
   first-shortest =
-      let test : List ℕ → Bool = λ row. eqb (rowSpan p t row) (leastOf spans) in
-      let (row, m, e) = a-shortest in
-      let kept = keep-mem test (pairs p t) m (eq-eqb (rowSpan p t row) (leastOf spans) e) in
-      let (here, y) = keep-is test (pairs p t) (first-mem (shortestPairs p t) [] kept) in
-      let span : rowSpan p t (firstShortest p t) ≡ leastOf spans = eqb-true _ _ y in
       record {
-        one-of = here;
-        least = λ other n. omega (arith, span, least-below spans _ (Memᴰ·map (rowSpan p t) n));
+        one-of = first-there .0;
+        least = λ other n. omega (arith, first-span, least-below (spans p t) _ (Memᴰ·map (rowSpan p t) n));
         first =
             λ other n same.
             ⊎-elim
             (λ q. subst (NotAfter (firstShortest p t)) (sym q) (not-self (firstShortest p t)))
             (before-not-after (firstShortest p t) other)
-            (first-to (shortestPairs p t) [] (keep-pairwise test (pairs p t) (pairs-ordered p t))
-            (keep-mem test (pairs p t) n (eq-eqb (rowSpan p t other) (leastOf spans) (same ∙ span))));
+            (first-to (shortestPairs p t) [] (keep-pairwise (isShortest p t) (pairs p t) (pairs-ordered p t))
+            (keep-mem (isShortest p t) (pairs p t) n
+            (eq-eqb (rowSpan p t other) (leastOf (spans p t)) (same ∙ first-span))));
       }
 
   -- It is a session that no feasible one undercuts, starts being any whole ticks.

@@ -19,19 +19,23 @@ fn put_plan_lines(fd: i32) -> bool {
 fn put_session_lines(fd: i32) -> bool {
     io::write_all(
         fd,
-        b"  planner count [CAP]    print how many active sessions the variants have together, each once\n",
+        b"  planner count [CAP]    print how many active sessions the variants have together, each once,\n",
     )
         && io::write_all(
             fd,
-            b"  planner list [CAP]     print them: the lowest variant that has it, then the start of each\n",
+            b"                         and how many of these are as short as the shortest\n",
         )
         && io::write_all(
             fd,
-            b"                         activity, - if absent, in the order of these numbers\n",
+            b"  planner list [CAP]     print each of them: the lowest variant that has it, then the start of\n",
         )
         && io::write_all(
             fd,
-            b"  planner best [CAP]     print the first shortest session of that order\n",
+            b"                         each activity, - if absent, in the order of these numbers\n",
+        )
+        && io::write_all(
+            fd,
+            b"  planner best [CAP]     print the first shortest session of that order, and what count prints\n",
         )
         && io::write_all(
             fd,

@@ -1,6 +1,5 @@
 // The answers of the calls, printed. A refusal is its number, its figure and the reason in words.
 use answers::BestAnswer;
-use answers::CountAnswer;
 use answers::ListAnswer;
 use console::put;
 use console::put_line;
@@ -56,10 +55,22 @@ pub fn put_checked(file: &[u8], variant: u32, timetable: Timetable) -> bool {
     }
 }
 
+// How many active sessions there are, and how many of these are shortest.
+fn put_counts(count: u64, shortest: u64) -> bool {
+    put_line(b"count=", count) && put_line(b"shortest=", shortest)
+}
+
 pub fn put_counted(file: &[u8], cap: u32) -> bool {
-    match calls::count(file, cap) {
-        CountAnswer::Counted(n) => put_line(b"count=", n),
-        CountAnswer::Refused(r) => put_refused(r),
+    let best = calls::best(file, cap);
+    let answer = best.answer;
+    match answer {
+        BestAnswer::Found {
+            variant: _,
+            makespan: _,
+            count,
+            shortest,
+        } => put_counts(count, shortest),
+        BestAnswer::Refused(r) => put_refused(r),
     }
 }
 
@@ -80,8 +91,16 @@ pub fn put_listed(file: &[u8], cap: u32, area: &mut [u32]) -> bool {
 pub fn put_best(file: &[u8], cap: u32) -> bool {
     let best = calls::best(file, cap);
     let answer = best.answer;
-    if let BestAnswer::Refused(r) = answer {
-        return put_refused(r);
+    let timetable = best.timetable;
+    match answer {
+        BestAnswer::Found {
+            variant,
+            makespan,
+            count,
+            shortest,
+        } => console::put_session(variant, makespan)
+            && put_counts(count, shortest)
+            && console::put_starts(timetable),
+        BestAnswer::Refused(r) => put_refused(r),
     }
-    console::put_best(best)
 }

@@ -4,7 +4,7 @@ use native.Mathlib.Omega.{arith}
 use mathlib.Core.Bool.{Bool, false, not, cond, _&&_, and-true, and-false}
 use mathlib.Core.List.{List}
 use mathlib.Core.Logic.{inl}
-use mathlib.Core.Path.{_≡_, refl, sym, ap, _∙_, subst}
+use mathlib.Core.Path.{_≡_, refl, sym, ap, _∙_}
 use lib.ListN.{getD, replicate, length-replicate}
 use Rattle.base.proofs.Bools.{true-not-false, cond-false}
 use Rattle.base.proofs.Below.{max-least}
@@ -20,8 +20,7 @@ use Rattle.scan_exact.proofs.Standing.{begun-standing}
 use Rattle.instance.specs.Instance.{ownOf, Instance}
 use Rattle.instance.specs.Table.{presentOf, ownAt, projectIn}
 use Rattle.profile.specs.Work.{endAt, latestOf, freeFrom, workCells}
-use Rattle.tally.specs.Seen.{Kept, kept, keptOf, tallyOf, IsTally}
-use Rattle.tally.specs.declared.Tally.{Tally}
+use Rattle.tally.specs.Seen.{Kept, keptOf}
 use Rattle.steps.specs.Steps.{frozenIn, looseIn}
 use Rattle.steps.specs.declared.Line.{Line}
 use Rattle.steps.proofs.Sets.{running-is}
@@ -126,7 +125,7 @@ module _ (t : List ℕ) (given : Instance t) where
       }
 
   -- What is explored from there is all.
-  found-all : {b : List ℕ} {k : Kept} {w cells area : List ℕ} → Explored t b l k firstWork w cells area
+  pub found-all : {b : List ℕ} {k : Kept} {w cells area : List ℕ} → Explored t b l k firstWork w cells area
       → Found t b k (keptOf cells area)
   unfolding begun
   found-all done =
@@ -138,16 +137,3 @@ module _ (t : List ℕ) (given : Instance t) where
             (begun-none t given .fits) (seen .all);
         kept = seen .kept;
       }
-
-  pub found-so : {b : List ℕ} {tally : Tally} {w cells′ area′ : List ℕ} (cells₀ area₀ cells area : List ℕ)
-      → tallyOf cells₀ ≡ tally
-      → Explored t b (firstLine (presentOf t)) (keptOf cells₀ area₀) firstWork w cells′ area′
-      → area ≡ area′
-      → cells ≡ cells′
-      → IsTally cells × Found t b (kept tally area₀) (keptOf cells area)
-  found-so {b} {tally} {w} {cells′} {area′} cells₀ area₀ cells area from done p q =
-      rw q
-      (rw p (
-        done .tally,
-        subst (λ (x : Tally). Found t b (kept x area₀) (keptOf cells′ area′)) from (found-all done),
-      ))

@@ -24,9 +24,6 @@ use steps::Line;
 use steps::shift;
 use steps::soon_of;
 use tally::Cells;
-use tally::Tally;
-use tally::cells_of;
-use tally::tally_of;
 use unbranched::Reached;
 use unbranched::advance;
 ghost use mathlib.Core.Bool.{true, false};
@@ -42,7 +39,7 @@ ghost use Rattle.crowding.specs.Crowd.{crowd};
 ghost use Rattle.steps.specs.Steps.{frozenIn, Lives};
 ghost use Rattle.steps.specs.declared.Line.{Line};
 ghost use Rattle.orders.specs.Book.{Prior};
-ghost use Rattle.tally.specs.Seen.{kept, keptOf};
+ghost use Rattle.tally.specs.Seen.{keptOf, IsTally};
 ghost use Rattle.unbranched.specs.Position.{Position, Given, Explored};
 ghost use Rattle.unbranched.specs.declared.Reached.{Reached};
 ghost use Rattle.search.specs.Choice.{InConflict, Choosing, Spreading, Settles, Takes, Spreads};
@@ -234,16 +231,16 @@ fn descend(
 // Every active schedule of the variant in the table that none of the orders up to its link has is counted, until there
 // are more than the cap; the one that ends first of all so far is kept, and each is written as a row where the area is
 // long enough.
-pub fn search(table: &Table, tally: Tally, book: &[u32], area: &mut [u32]) -> Tally
-    requires { ⌜ Instance (now table) × Prior (now table) (now book) ⌝ }
-    ensures { λ r.
-        ⌜ Found (now (table .entry)) (now (book .entry)) (kept tally (now (area .entry)))
-        (kept r (now (area .exit))) ⌝ }
+pub fn search(table: &Table, cells: &mut Cells, book: &[u32], area: &mut [u32])
+    requires { ⌜ Instance (now table) × Prior (now table) (now book) × IsTally (now cells) ⌝ }
+    ensures { λ _. ⌜ IsTally (now (cells .exit)) ⌝ }
+    ensures { λ _.
+        ⌜ Found (now (table .entry)) (now (book .entry)) (keptOf (now (cells .entry)) (now (area .entry)))
+        (keptOf (now (cells .exit)) (now (area .exit))) ⌝ }
 {
     let present = table[PRESENT];
     let many = crowding(table, present);
     let mut work = [0; WORK_CELLS];
-    let mut cells = cells_of(tally);
     let line = Line {
         tick: 0,
         placed: 0,
@@ -254,9 +251,8 @@ pub fn search(table: &Table, tally: Tally, book: &[u32], area: &mut [u32]) -> Ta
         live: 0,
     };
     if many == 0 {
-        complete(table, line, 0, &mut work, &mut cells, book, area);
+        complete(table, line, 0, &mut work, cells, book, area);
     } else {
-        descend(table, line, 0, many, &mut work, &mut cells, book, area);
+        descend(table, line, 0, many, &mut work, cells, book, area);
     }
-    tally_of(&cells)
 }

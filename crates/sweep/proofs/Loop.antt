@@ -14,8 +14,7 @@ use Rattle.base.proofs.Lists.{zeros, gather-same}
 use Rattle.term.specs.Term.{Term}
 use Rattle.term.specs.Variants.{variantCount}
 use Rattle.orders.specs.Book.{entryCells, buckets, headsCells, entriesOf, bucketOf}
-use Rattle.tally.specs.Seen.{Kept, kept, settingOf, seen}
-use Rattle.tally.specs.declared.Tally.{Tally}
+use Rattle.tally.specs.Seen.{Kept, settingOf, seen}
 use Rattle.tally.specs.Entries.{entryOf, entries, entriesBelow, run}
 use Rattle.tally.proofs.Entries.{run-none, run-next, run-done}
 use Rattle.judge.specs.Campaign.{HoldsPlan}
@@ -67,10 +66,10 @@ module _ (v : ℕ) (f g : ℕ → List (List ℕ)) where
 
 module _ (c : Campaign) (cap : ℕ) (k₀ : Kept) where
   -- What is kept is what the first v variants leave.
-  abbrev pub SweptTo : ℕ → Tally → List ℕ → Type 0
-  SweptTo v tally area = (t : Term) → HoldsPlan c t → Swept c t cap v k₀ (kept tally area)
+  abbrev pub SweptTo : ℕ → Kept → Type 0
+  SweptTo v k = (t : Term) → HoldsPlan c t → Swept c t cap v k₀ k
 
-  pub swept-none : SweptTo 0 (k₀ .tally) (k₀ .area)
+  pub swept-none : SweptTo 0 k₀
   swept-none t h =
       record {
         rows = newAt c t;
@@ -139,13 +138,12 @@ module _ (c : Campaign) (cap : ℕ) (k₀ : Kept) where
       }
 
   -- At the last variant, or sooner where the count is above the cap.
-  pub swept-all : (tally : Tally) (area : List ℕ) → SweptTo (c .variants) tally area
-      → (t : Term) → HoldsPlan c t → Swept c t cap (variantCount t) k₀ (kept tally area)
-  swept-all tally area s t h = subst (λ (n : ℕ). Swept c t cap n k₀ (kept tally area)) (h .counted) (s t h)
+  pub swept-all : (k : Kept) → SweptTo (c .variants) k
+      → (t : Term) → HoldsPlan c t → Swept c t cap (variantCount t) k₀ k
+  swept-all k s t h = subst (λ (n : ℕ). Swept c t cap n k₀ k) (h .counted) (s t h)
 
-  pub swept-over : (v : ℕ) (tally : Tally) (area : List ℕ) → v ≤ c .variants → cap < tally .count
-      → SweptTo v tally area
-      → (t : Term) → HoldsPlan c t → Swept c t cap (variantCount t) k₀ (kept tally area)
-  swept-over v tally area l over s t h =
-      swept-stops t v (kept tally area) (s t h) (newAt c t) (variantCount t) (omega (arith, l, h .counted)) over
+  pub swept-over : (v : ℕ) (k : Kept) → v ≤ c .variants → cap < k .tally .count → SweptTo v k
+      → (t : Term) → HoldsPlan c t → Swept c t cap (variantCount t) k₀ k
+  swept-over v k l over s t h =
+      swept-stops t v k (s t h) (newAt c t) (variantCount t) (omega (arith, l, h .counted)) over
       (λ u from below. Perm·refl (newAt c t u))

@@ -31,7 +31,7 @@ use Rattle.orders.specs.Book.{entryCells, orderAt, entriesOf, itself, Nearest, 
 use Rattle.orders.specs.Book.{Entered, isNewBy}
 use Rattle.search.specs.Branch.{Found}
 use Rattle.tally.specs.Seen.{Kept, Setting, settingOf, settingIn, timetableOf, rankKept, rowPlaced, better, counted}
-use Rattle.tally.specs.Seen.{seen}
+use Rattle.tally.specs.Seen.{tiesWith, seen}
 use Rattle.judge.specs.Campaign.{HoldsVariant}
 use Rattle.judge.specs.declared.Campaign.{Campaign}
 use Rattle.sweep.specs.Booked.{Booked}
@@ -50,22 +50,17 @@ seen-alike p q a s =
     (λ row.
     ap
     (λ (end : ℕ).
+    let ahead : Bool = isBefore (end ∷ s .variant ∷ timetableOf row) (rankKept (k .tally)) in
     cond (leb (k .tally .count) (s .cap))
     (record {
       tally =
-          cond (isBefore (end ∷ s .variant ∷ timetableOf row) (rankKept (k .tally)))
-          (record {
+          record {
             count = k .tally .count + 1;
-            «best_end» = end;
-            «best_variant» = s .variant;
-            best = record { starts = timetableOf row };
-          })
-          (record {
-            count = k .tally .count + 1;
-            «best_end» = k .tally .«best_end»;
-            «best_variant» = k .tally .«best_variant»;
-            best = k .tally .best;
-          });
+            ties = tiesWith (k .tally) end;
+            «best_end» = cond ahead end (k .tally .«best_end»);
+            «best_variant» = cond ahead (s .variant) (k .tally .«best_variant»);
+            best = cond ahead (record { starts = timetableOf row }) (k .tally .best);
+          };
       area = rowPlaced (k .area) (k .tally .count * (s .acts + 1)) (s .variant ∷ row);
     })
     k)

@@ -6,12 +6,13 @@ use orders::BUCKETS;
 use orders::ENTRY;
 use orders::Heads;
 use plan::MOST_VARIANTS;
-use tally::Tally;
+use tally::COUNT;
+use tally::Cells;
 ghost use Prim.Native.Nat.{_*_, _≤_};
 ghost use lib.ListN.{length};
 ghost use Rattle.term.specs.Term.{Term};
 ghost use Rattle.term.specs.Variants.{variantCount};
-ghost use Rattle.tally.specs.Seen.{kept};
+ghost use Rattle.tally.specs.Seen.{keptOf, IsTally};
 ghost use Rattle.orders.specs.Book.{entryCells};
 ghost use Rattle.judge.specs.Campaign.{HoldsPlan, HoldsVariant};
 ghost use Rattle.sweep.specs.Swept.{LaidFor, Swept, Ready, Turned};
@@ -21,30 +22,29 @@ fn search_variant(
     campaign: Campaign,
     v: u32,
     cap: u32,
-    tally: Tally,
     table: &mut Table,
     heads: &mut Heads,
+    cells: &mut Cells,
     book: &mut [u32],
     area: &mut [u32],
-) -> Tally
+)
     requires { ⌜ ((t : Term) × HoldsVariant campaign t v × Ready campaign t v (now heads) (now book)
-        × LaidFor campaign (now table)) ⌝ }
-    ensures { λ _. ⌜ LaidFor campaign (now (table .exit)) ⌝ }
-    ensures { λ r.
+        × LaidFor campaign (now table)) × IsTally (now cells) ⌝ }
+    ensures { λ _. ⌜ LaidFor campaign (now (table .exit)) × IsTally (now (cells .exit)) ⌝ }
+    ensures { λ _.
         ⌜ ((t : Term) → HoldsVariant campaign t v → Ready campaign t v (now (heads .entry)) (now (book .entry))
-        → Turned campaign t cap v (kept tally (now (area .entry))) (kept r (now (area .exit))) (now (heads .exit))
-        (now (book .exit))) ⌝ }
+        → Turned campaign t cap v (keptOf (now (cells .entry)) (now (area .entry)))
+        (keptOf (now (cells .exit)) (now (area .exit))) (now (heads .exit)) (now (book .exit))) ⌝ }
 {
     let x = precedence::tabled(campaign, v);
     let preds = x.preds;
     let link = orders::find(heads, book, x.present);
     if !orders::compare(book, link, &preds) {
-        return tally;
+        return;
     }
     instance::for_variant(table, x.present, &preds, v, cap, link);
-    let found = search::search(table, tally, book, area);
+    search::search(table, cells, book, area);
     orders::enter(heads, book, link, x.present, &preds);
-    found
 }
 
 // The table of the plan, with no variant in it yet.
@@ -60,46 +60,44 @@ fn table_of(campaign: Campaign) -> Table
 }
 
 // The same of all variants, with a book that has room for them.
-fn sweep_with(
-    campaign: Campaign,
-    start: Tally,
-    cap: u32,
-    book: &mut [u32],
-    area: &mut [u32],
-) -> Tally
-    requires { ⌜ ((t : Term) × HoldsPlan campaign t × (entryCells * variantCount t ≤ length (now book))) ⌝ }
-    ensures { λ r.
+fn sweep_with(campaign: Campaign, cap: u32, cells: &mut Cells, book: &mut [u32], area: &mut [u32])
+    requires { ⌜ ((t : Term) × HoldsPlan campaign t × (entryCells * variantCount t ≤ length (now book)))
+        × IsTally (now cells) ⌝ }
+    ensures { λ _. ⌜ IsTally (now (cells .exit)) ⌝ }
+    ensures { λ _.
         ⌜ ((t : Term) → HoldsPlan campaign t
-        → Swept campaign t cap (variantCount t) (kept start (now (area .entry))) (kept r (now (area .exit)))) ⌝ }
+        → Swept campaign t cap (variantCount t) (keptOf (now (cells .entry)) (now (area .entry)))
+        (keptOf (now (cells .exit)) (now (area .exit)))) ⌝ }
 {
     let mut table = table_of(campaign);
     let mut heads = [0; BUCKETS + 1];
-    let mut tally = start;
     let mut v = 0;
     while v < campaign.variants {
-        if tally.count > cap as u64 {
-            return tally;
+        if cells[COUNT] > cap as u64 {
+            return;
         }
-        tally = search_variant(campaign, v, cap, tally, &mut table, &mut heads, book, area);
+        search_variant(campaign, v, cap, &mut table, &mut heads, cells, book, area);
         v += 1;
     }
-    tally
 }
 
 // So many variants need a short book.
 const FEW: u32 = 16;
 
 // The schedules of all variants, each once, until there are more than `cap`; the tally is carried on.
-pub fn sweep(campaign: Campaign, start: Tally, cap: u32, area: &mut [u32]) -> Tally
-    requires { ⌜ ((t : Term) × HoldsPlan campaign t) ⌝ }
-    ensures { λ r.
+pub fn sweep(campaign: Campaign, cap: u32, cells: &mut Cells, area: &mut [u32])
+    requires { ⌜ ((t : Term) × HoldsPlan campaign t) × IsTally (now cells) ⌝ }
+    ensures { λ _. ⌜ IsTally (now (cells .exit)) ⌝ }
+    ensures { λ _.
         ⌜ ((t : Term) → HoldsPlan campaign t
-        → Swept campaign t cap (variantCount t) (kept start (now (area .entry))) (kept r (now (area .exit)))) ⌝ }
+        → Swept campaign t cap (variantCount t) (keptOf (now (cells .entry)) (now (area .entry)))
+        (keptOf (now (cells .exit)) (now (area .exit)))) ⌝ }
 {
     if campaign.variants <= FEW {
         let mut book = [0; FEW as usize * ENTRY];
-        return sweep_with(campaign, start, cap, &mut book, area);
+        sweep_with(campaign, cap, cells, &mut book, area);
+        return;
     }
     let mut book = [0; MOST_VARIANTS as usize * ENTRY];
-    sweep_with(campaign, start, cap, &mut book, area)
+    sweep_with(campaign, cap, cells, &mut book, area);
 }

@@ -9,7 +9,7 @@ use mathlib.Core.List.{List·Memᴰ·not-nil, List·Memᴰ·eq-of-singleton}
 use lib.ListN.{length}
 use borrow.Author.Tests.{lt-ltb}
 use Rattle.base.specs.Order.{isBefore, Before, NotAfter}
-use Rattle.base.proofs.Bools.{by-bool, true-not-false, cond-true, cond-false}
+use Rattle.base.proofs.Bools.{by-bool, true-not-false}
 use Rattle.base.proofs.Order.{other-first, not-self, before-not-after, not-after-trans}
 use Rattle.schedule.specs.Schedule.{latestEnd}
 use Rattle.schedule.specs.Sessions.{startsOf}
@@ -81,12 +81,13 @@ module _ (acts cap : ℕ) where
   unfolding counted better
   step-least k e c =
       let next : Kept = step acts cap k e in
-      let is : next .tally ≡ better (e .project) (settingOf (e .variant) acts cap) (k .tally) (e .row) =
-      ap (λ (x : Kept). x .tally) (step-counts acts cap k e c) in
+      let is : rankKept (next .tally)
+      ≡ rankKept (better (e .project) (settingOf (e .variant) acts cap) (k .tally) (e .row)) =
+      ap (λ (x : Kept). rankKept (x .tally)) (step-counts acts cap k e c) in
       by-bool
       (isBefore (rankEntry e) (rankKept (k .tally)))
-      (λ y. least-new (rankKept (next .tally)) (rankKept (k .tally)) e y (ap rankKept (is ∙ cond-true _ _ y)))
-      (λ n. least-old (rankKept (next .tally)) (rankKept (k .tally)) e n (ap rankKept (is ∙ cond-false _ _ n)))
+      (λ y. least-new (rankKept (next .tally)) (rankKept (k .tally)) e y (is ∙ rw y refl))
+      (λ n. least-old (rankKept (next .tally)) (rankKept (k .tally)) e n (is ∙ rw n refl))
 
   run-least : (k : Kept) (es : List Entry) → k .tally .count + length es ≤ suc cap
       → Least (rankKept (run acts cap k es .tally)) (rankKept (k .tally)) es

@@ -8,25 +8,15 @@ use mathlib.Core.List.{List, [], _∷_}
 use lib.Dec.{leb}
 use lib.ListN.{length}
 use borrow.Author.Tests.{lt-leb}
-use Rattle.base.specs.Order.{isBefore}
-use Rattle.base.proofs.Bools.{by-bool}
-use Rattle.schedule.specs.Project.{Project}
-use Rattle.tally.specs.declared.Tally.{Tally}
-use Rattle.tally.specs.Seen.{Kept, Setting, rankOf, rankKept, better, counted}
+use Rattle.tally.specs.Seen.{Kept, better, counted}
 use Rattle.tally.specs.Entries.{Entry, step, run}
 use Rattle.tally.proofs.Entries.{step-counts, stays}
-
-better-count : (p : Project) (q : Setting) (t : Tally) (row : List ℕ) → better p q t row .count ≡ t .count + 1
-unfolding better
-better-count p q t row = by-bool (isBefore (rankOf p (q .variant) row) (rankKept t)) (λ y. rw y) (λ z. rw z)
 
 module _ (acts cap : ℕ) where
   pub step-count : (k : Kept) (e : Entry) → k .tally .count ≤ cap
       → step acts cap k e .tally .count ≡ k .tally .count + 1
-  unfolding counted
-  step-count k e l =
-      ap (λ (x : Kept). x .tally .count) (step-counts acts cap k e l)
-      ∙ better-count (e .project) _ (k .tally) (e .row)
+  unfolding counted better
+  step-count k e l = ap (λ (x : Kept). x .tally .count) (step-counts acts cap k e l)
 
   pub count-from : (k : Kept) (es : List Entry) → k .tally .count ≤ suc cap
       → run acts cap k es .tally .count ≡ min (k .tally .count + length es) (suc cap)

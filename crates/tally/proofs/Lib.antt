@@ -3,5 +3,6 @@ pub mod Rows
 pub mod Entries
 pub mod Count
 pub mod Best
+pub mod Ties
 pub mod Area
 pub mod Passed

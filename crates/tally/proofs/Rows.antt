@@ -8,11 +8,11 @@ use native.Mathlib.Omega.{arith}
 use mathlib.Core.Bool.{Bool, true, false, cond}
 use mathlib.Core.List.{List, [], _∷_, _++_, append-assoc, append-nil}
 use mathlib.Core.Logic.{by-cases}
-use mathlib.Core.Path.{_≡_, refl, sym, ap, ap₂, _∙_}
-use lib.Dec.{ltb}
+use mathlib.Core.Path.{_≡_, refl, sym, ap, ap₂, _∙_, subst}
+use lib.Dec.{eqb, ltb}
 use lib.ListN.{length, getD, set, take, drop, replicate, length-append, length-drop, length-set, drop-of-length-le}
 use lib.ListN.{length-replicate, getD-replicate, List·getD-append}
-use lib.Seq.{paste, paste-suc, take-suc, take-suc-set, take-all, drop-drop, getD-set-other}
+use lib.Seq.{paste, paste-suc, take-suc, take-suc-set, take-all, drop-drop, getD-set-same, getD-set-other}
 use lib.Seq.{drop-cons, getD-drop, getD-append-add, length-take-le}
 use borrow.Author.Tests.{le-leb, lt-leb, eq-eqb, ne-eqb}
 use Rattle.base.specs.Order.{isBefore}
@@ -32,8 +32,9 @@ use Rattle.profile.specs.Work.{endAt, startAt, latestOf}
 use Rattle.soonest.specs.Row.{Ended, rowIn}
 use Rattle.soonest.proofs.Row.{row-length, row-at, end-is, present-below}
 use Rattle.tally.specs.Seen.{Setting, rowPlaced, timetableOf, IsTally, tallyOf, keptOf, better, seen, counted}
-use Rattle.tally.specs.Seen.{countCell, bestEndCell, bestVariantCell, startsFrom, tallyCells, lineIn, rankIn}
-use Rattle.tally.specs.Seen.{rankOf, rankKept}
+use Rattle.tally.specs.Seen.{countCell, tiesCell, bestEndCell, bestVariantCell, startsFrom, tallyCells}
+use Rattle.tally.specs.Seen.{lineIn, rankIn, rankOf, rankKept, tiesWith}
+use Rattle.tally.specs.declared.Tally.{Tally}
 use Rattle.tally.specs.Leaf.{startOf}
 
 -- ---- starts
@@ -198,22 +199,44 @@ next-at count acts h l =
 
 -- ---- the tally
 
-three : (P : List ℕ → Type 0) → ((x y z : ℕ) (l : List ℕ) → P (x ∷ y ∷ z ∷ l)) → (cells : List ℕ)
-    → startsFrom ≤ length cells → P cells
-three P f [] h = absurd (omega arith)
-three P f (a ∷ []) h = absurd (omega arith)
-three P f (a ∷ b ∷ []) h = absurd (omega arith)
-three P f (a ∷ b ∷ c ∷ l) h = f a b c l
+-- There is at most one more that ends as soon.
+ties-most : (t : Tally) (end : ℕ) → tiesWith t end ≤ t .ties + 1
+ties-most t end =
+    by-bool
+    (ltb end (t .«best_end»))
+    (λ y. rw y (omega arith))
+    (λ n. rw n (by-bool (eqb end (t .«best_end»)) (λ y. rw y (omega arith)) (λ n. rw n (omega arith))))
 
--- A store in one of the first three cells.
-pub tally-set : (cells : List ℕ) (k x : ℕ) → k < startsFrom → IsTally cells → IsTally (set cells k x)
-tally-set cells k x h t =
+four : (P : List ℕ → Type 0) → ((w x y z : ℕ) (l : List ℕ) → P (w ∷ x ∷ y ∷ z ∷ l)) → (cells : List ℕ)
+    → startsFrom ≤ length cells → P cells
+four P f [] h = absurd (omega arith)
+four P f (a ∷ []) h = absurd (omega arith)
+four P f (a ∷ b ∷ []) h = absurd (omega arith)
+four P f (a ∷ b ∷ c ∷ []) h = absurd (omega arith)
+four P f (a ∷ b ∷ c ∷ d ∷ l) h = f a b c d l
+
+-- A store in one of the cells before the starts, where the ties are still no more than the count.
+front-set : (cells : List ℕ) (k x : ℕ) → k < startsFrom → IsTally cells
+    → getD (set cells k x) tiesCell 0 ≤ getD (set cells k x) countCell 0
+    → IsTally (set cells k x)
+front-set cells k x h t few =
     record {
       size = length-set cells k x ∙ t .size;
+      few = few;
       starts = λ i l. omega (arith, getD-set-other cells k (startsFrom + i) x 0 (λ e. omega arith), t .starts i l);
     }
 
--- The starts s behind the first three cells.
+pub tally-set : (cells : List ℕ) (k x : ℕ) → tiesCell < k → k < startsFrom → IsTally cells → IsTally (set cells k x)
+tally-set cells k x g h t =
+    front-set cells k x h t
+    (omega (
+      arith,
+      getD-set-other cells k tiesCell x 0 (λ e. omega arith),
+      getD-set-other cells k countCell x 0 (λ e. omega arith),
+      t .few,
+    ))
+
+-- The starts s behind the first four cells.
 pub all-stored : (cells s cells′ : List ℕ) (n : ℕ) → n ≡ places → length cells ≡ tallyCells → length s ≡ places
     → cells′ ≡ paste cells startsFrom s n → cells′ ≡ take startsFrom cells ++ s
 all-stored cells s cells′ n all e f back =
@@ -223,13 +246,23 @@ all-stored cells s cells′ n all e f back =
     (drop-of-length-le cells {i = tallyCells} (omega arith))
     ∙ append-nil (take startsFrom cells ++ s)
 
-pub tally-stored : (cells s cells′ : List ℕ) → length cells ≡ tallyCells → length s ≡ places
+pub tally-stored : (cells s cells′ : List ℕ) → IsTally cells → length s ≡ places
     → ((i : ℕ) → i < places → getD s i 0 < wordValues)
     → cells′ ≡ take startsFrom cells ++ s → IsTally cells′
-tally-stored cells s cells′ e f low back =
-    let front : length (take startsFrom cells) ≡ startsFrom = length-take-le startsFrom cells (omega arith) in
+tally-stored cells s cells′ t f low back =
+    let front : length (take startsFrom cells) ≡ startsFrom =
+    length-take-le startsFrom cells (omega (arith, t .size)) in
     record {
       size = omega (arith, ap length back, length-append (take startsFrom cells) s, front);
+      few =
+          subst (λ (l : List ℕ). getD l tiesCell 0 ≤ getD l countCell 0) (sym back)
+          (four
+          (λ l. getD l tiesCell 0 ≤ getD l countCell 0
+          → getD (take startsFrom l ++ s) tiesCell 0 ≤ getD (take startsFrom l ++ s) countCell 0)
+          (λ w x y z l h. h)
+          cells
+          (omega (arith, t .size))
+          (t .few));
       starts = λ i l.
           let at : getD cells′ (startsFrom + i) 0 ≡ getD s i 0 =
           ap₂ (λ (x : List ℕ) (k : ℕ). getD x (k + i) 0) back (sym front)
@@ -321,46 +354,93 @@ module _ (t w cells : List ℕ) where
         → isBefore ours theirs ≡ isBefore (rankIn t w) (rankKept (tallyOf cells))
     by-starts e = sym (same-end ∙ same-first (variantOf t) their-variant ours theirs e)
 
--- One more is counted, which does not change the rank kept.
+-- One more is counted, and then x are as short, which does not change the rank kept.
 abbrev pub more : List ℕ → List ℕ
 more cells = set cells countCell (getD cells countCell 0 + 1)
 
-pub more-tally : (cells : List ℕ) → IsTally cells → IsTally (more cells)
-more-tally cells t = tally-set cells countCell (getD cells countCell 0 + 1) (omega arith) t
+abbrev pub tied : List ℕ → ℕ → List ℕ
+tied cells x = set (more cells) tiesCell x
+
+module _ (cells : List ℕ) (t : IsTally cells) where
+  counted-more : getD (more cells) countCell 0 ≡ getD cells countCell 0 + 1
+  counted-more = getD-set-same cells countCell (getD cells countCell 0 + 1) 0 (omega (arith, t .size))
+
+  pub ties-there : getD (more cells) tiesCell 0 ≡ getD cells tiesCell 0
+  ties-there = getD-set-other cells countCell tiesCell (getD cells countCell 0 + 1) 0 (λ e. omega arith)
+
+  pub more-tally : IsTally (more cells)
+  more-tally =
+      front-set cells countCell (getD cells countCell 0 + 1) (omega arith) t
+      (omega (arith, counted-more, ties-there, t .few))
+
+  pub tied-tally : (x end : ℕ) → x ≡ tiesWith (tallyOf (more cells)) end → IsTally (tied cells x)
+  tied-tally x end e =
+      front-set (more cells) tiesCell x (omega arith) more-tally
+      (omega (
+        arith,
+        getD-set-same (more cells) tiesCell x 0 (omega (arith, more-tally .size)),
+        getD-set-other (more cells) tiesCell countCell x 0 (λ q. omega arith),
+        counted-more,
+        ties-there,
+        t .few,
+        e,
+        ties-most (tallyOf (more cells)) end,
+      ))
 
 module _ (p : Project) (q : Setting) (row : List ℕ) where
   abbrev ahead : List ℕ → Bool
   ahead cells = isBefore (rankOf p (q .variant) row) (rankKept (tallyOf cells))
 
-  -- The cells with the end, the variant and the starts stored.
-  abbrev ranked : List ℕ → ℕ → List ℕ
-  ranked cells end =
-      take startsFrom (set (set (more cells) bestEndCell end) bestVariantCell (q .variant)) ++ timetableOf row
+  -- The cells with the end, the variant and the starts stored too.
+  abbrev ranked : List ℕ → ℕ → ℕ → List ℕ
+  ranked cells x end =
+      take startsFrom (set (set (tied cells x) bestEndCell end) bestVariantCell (q .variant)) ++ timetableOf row
 
-  pub rank-before : (cells cells′ : List ℕ) (end : ℕ) → end ≡ latestEnd p (startsOf row) → IsTally cells
-      → ahead (more cells) ≡ true → cells′ ≡ ranked cells end
-      → tallyOf cells′ ≡ better p q (tallyOf cells) row
-  unfolding better
-  rank-before cells cells′ end e t h back =
-      ap tallyOf (back ∙ ap (ranked cells) e)
-      ∙ three
-      (λ cells.
-      ahead (more cells) ≡ true → tallyOf (ranked cells (latestEnd p (startsOf row))) ≡ better p q (tallyOf cells) row)
-      (λ x y z r h. sym (cond-true _ _ h))
-      cells
-      (omega (arith, t .size))
-      h
+  module _ (cells : List ℕ) (x end : ℕ) (t : IsTally cells) (last : end ≡ latestEnd p (startsOf row))
+      (ties : x ≡ tiesWith (tallyOf (more cells)) end) where
+    pub rank-before : (cells′ : List ℕ) → ahead (tied cells x) ≡ true → cells′ ≡ ranked cells x end
+        → tallyOf cells′ ≡ better p q (tallyOf cells) row
+    unfolding better
+    rank-before cells′ h back =
+        ap tallyOf back
+        ∙ four
+        (λ l. x ≡ tiesWith (tallyOf (more l)) end → ahead (tied l x) ≡ true
+        → tallyOf (ranked l x end) ≡ better p q (tallyOf l) row)
+        (λ a b y z r ties h.
+        (λ i.
+        record {
+          count = a + 1;
+          ties = (ties ∙ ap (tiesWith (tallyOf (a ∷ b ∷ y ∷ z ∷ r))) last) i;
+          «best_end» = last i;
+          «best_variant» = q .variant;
+          best = record { starts = timetableOf row };
+        })
+        ∙ rw h refl)
+        cells
+        (omega (arith, t .size))
+        ties
+        h
 
-  pub rank-after : (cells : List ℕ) → IsTally cells → ahead (more cells) ≡ false
-      → tallyOf (more cells) ≡ better p q (tallyOf cells) row
-  unfolding better
-  rank-after cells t h =
-      three
-      (λ cells. ahead (more cells) ≡ false → tallyOf (more cells) ≡ better p q (tallyOf cells) row)
-      (λ x y z r h. sym (cond-false _ _ h))
-      cells
-      (omega (arith, t .size))
-      h
+    pub rank-after : ahead (tied cells x) ≡ false → tallyOf (tied cells x) ≡ better p q (tallyOf cells) row
+    unfolding better
+    rank-after h =
+        four
+        (λ l. x ≡ tiesWith (tallyOf (more l)) end → ahead (tied l x) ≡ false
+        → tallyOf (tied l x) ≡ better p q (tallyOf l) row)
+        (λ a b y z r ties h.
+        (λ i.
+        record {
+          count = a + 1;
+          ties = (ties ∙ ap (tiesWith (tallyOf (a ∷ b ∷ y ∷ z ∷ r))) last) i;
+          «best_end» = y;
+          «best_variant» = z;
+          best = record { starts = r };
+        })
+        ∙ rw h refl)
+        cells
+        (omega (arith, t .size))
+        ties
+        h
 
   pub seen-counted : (cells cells′ area area′ : List ℕ) → getD cells countCell 0 ≤ q .cap
       → tallyOf cells′ ≡ better p q (tallyOf cells) row

@@ -1,10 +1,10 @@
 -- What becomes of each schedule that the search finds: it is counted, kept if it comes before the one kept, and
 -- written as a row where the area has room for it.
-use Prim.Native.Nat.{ℕ, _+_, _-_, _*_, _<_}
+use Prim.Native.Nat.{ℕ, _+_, _-_, _*_, _≤_, _<_}
 use mathlib.Core.Bool.{Bool, cond}
 use mathlib.Core.List.{List, _∷_, _++_}
 use mathlib.Core.Path.{_≡_}
-use lib.Dec.{leb}
+use lib.Dec.{eqb, leb, ltb}
 use lib.ListN.{length, getD, take, drop, replicate}
 use Rattle.base.specs.Order.{isBefore}
 use Rattle.plan.specs.Limits.{wordValues}
@@ -28,7 +28,8 @@ settingOf variant acts cap = record { variant = variant; acts = acts; cap = cap 
 
 -- Nothing found yet; only a schedule that ends by `end` is to be kept.
 abbrev pub noTally : ℕ → Tally
-noTally end = record { count = 0; «best_end» = end; «best_variant» = 0; best = record { starts = noStarts } }
+noTally end =
+    record { count = 0; ties = 0; «best_end» = end; «best_variant» = 0; best = record { starts = noStarts } }
 
 pub record Kept : Type 0 where
   pub tally : Tally
@@ -37,30 +38,36 @@ pub record Kept : Type 0 where
 abbrev pub kept : Tally → List ℕ → Kept
 kept tally area = record { tally = tally; area = area }
 
--- The working cells hold the count, the least latest end so far, its variant and its starts.
+-- The working cells hold how many schedules were found, how many of them end as soon as any, the latest end of those,
+-- and the variant and the starts of the first of those.
 abbrev pub countCell : ℕ
 countCell = 0
 
+abbrev pub tiesCell : ℕ
+tiesCell = 1
+
 abbrev pub bestEndCell : ℕ
-bestEndCell = 1
+bestEndCell = 2
 
 abbrev pub bestVariantCell : ℕ
-bestVariantCell = 2
+bestVariantCell = 3
 
 abbrev pub startsFrom : ℕ
-startsFrom = 3
+startsFrom = 4
 
 abbrev pub tallyCells : ℕ
 tallyCells = startsFrom + places
 
 pub record IsTally (cells : List ℕ) : Type 0 where
   pub size : length cells ≡ tallyCells
+  pub few : getD cells tiesCell 0 ≤ getD cells countCell 0
   pub starts : (i : ℕ) → i < places → getD cells (startsFrom + i) 0 < wordValues
 
 abbrev pub tallyOf : List ℕ → Tally
 tallyOf cells =
     record {
       count = getD cells countCell 0;
+      ties = getD cells tiesCell 0;
       «best_end» = getD cells bestEndCell 0;
       «best_variant» = getD cells bestVariantCell 0;
       best = record { starts = drop startsFrom cells };
@@ -89,21 +96,21 @@ rankOf p variant row = latestEnd p (startsOf row) ∷ variant ∷ timetableOf ro
 abbrev pub rankKept : Tally → List ℕ
 rankKept t = t .«best_end» ∷ t .«best_variant» ∷ t .best .starts
 
+-- How many end as soon as the one kept, after one more that ends on tick `end`.
+abbrev pub tiesWith : Tally → ℕ → ℕ
+tiesWith t end = cond (ltb end (t .«best_end»)) 1 (cond (eqb end (t .«best_end»)) (t .ties + 1) (t .ties))
+
+-- One more schedule: it is kept if it comes before the one kept.
 unfoldable pub better : Project → Setting → Tally → List ℕ → Tally
 better p q t row =
-    cond (isBefore (rankOf p (q .variant) row) (rankKept t))
-    (record {
+    let ahead : Bool = isBefore (rankOf p (q .variant) row) (rankKept t) in
+    record {
       count = t .count + 1;
-      «best_end» = latestEnd p (startsOf row);
-      «best_variant» = q .variant;
-      best = record { starts = timetableOf row };
-    })
-    (record {
-      count = t .count + 1;
-      «best_end» = t .«best_end»;
-      «best_variant» = t .«best_variant»;
-      best = t .best;
-    })
+      ties = tiesWith t (latestEnd p (startsOf row));
+      «best_end» = cond ahead (latestEnd p (startsOf row)) (t .«best_end»);
+      «best_variant» = cond ahead (q .variant) (t .«best_variant»);
+      best = cond ahead (record { starts = timetableOf row }) (t .best);
+    }
 
 unfoldable pub counted : Project → Setting → Kept → List ℕ → Kept
 counted p q k row =

@@ -1,4 +1,4 @@
-// What is kept of the schedules that are found: their number, the shortest of them that comes first, and their rows.
+// What is kept of the schedules that are found: their number, how many are shortest, the first of these, and the rows.
 use instance::ACTS;
 use instance::CAP;
 use instance::Table;
@@ -20,45 +20,45 @@ ghost use Rattle.instance.specs.Instance.{Instance};
 ghost use Rattle.soonest.specs.Row.{Ended, rowIn};
 ghost use Rattle.orders.specs.Book.{Prior};
 ghost use Rattle.tally.specs.Seen.{startsFrom, rowPlaced, timetableOf, settingIn, lineIn, keptOf, IsTally};
-ghost use Rattle.tally.specs.Seen.{tallyOf, better, seen, seenIn, noTally, rankIn, rankKept};
+ghost use Rattle.tally.specs.Seen.{tallyOf, tiesWith, better, seen, seenIn, noTally, rankIn, rankKept};
 ghost use Rattle.tally.specs.Leaf.{startOf, Leaf};
 
-// How many schedules were found, and the first shortest of them: its latest end, its variant and its starts.
+// How many schedules were found and how many of them are shortest; of the first of these the latest end, the variant
+// and the starts.
 pub struct Tally {
     pub count: u64,
+    pub ties: u64,
     pub best_end: u64,
     pub best_variant: u64,
     pub best: Timetable,
 }
 
-impl Tally {
-    // Nothing found yet; only a schedule that ends by `end` is to be kept.
-    pub fn none(end: u32) -> Tally
-        ensures { λ r. ⌜ r ≡ noTally end ⌝ }
-    {
-        let best = Timetable::empty();
-        Tally {
-            count: 0,
-            best_end: end as u64,
-            best_variant: 0,
-            best,
-        }
-    }
-}
-
-// The cells of a tally: how many schedules were found, the least latest end, its variant, and from STARTS on a start
-// for each activity number.
+// The cells of a tally: the same numbers, and from STARTS on a start for each activity number.
 pub const COUNT: usize = 0;
 
-pub const BEST_END: usize = 1;
+pub const TIES: usize = 1;
 
-pub const BEST_VARIANT: usize = 2;
+pub const BEST_END: usize = 2;
 
-pub const STARTS: usize = 3;
+pub const BEST_VARIANT: usize = 3;
+
+pub const STARTS: usize = 4;
 
 pub const TALLY_CELLS: usize = STARTS + MOST_ACTS;
 
 pub type Cells = [u64; TALLY_CELLS];
+
+// Nothing found yet; only a schedule that ends by `end` is to be kept.
+pub fn none(end: u32) -> Cells
+    ensures { λ r. ⌜ IsTally r × (tallyOf r ≡ noTally end) ⌝ }
+{
+    let mut cells = [Timetable::MARK as u64; TALLY_CELLS];
+    cells[COUNT] = 0;
+    cells[TIES] = 0;
+    cells[BEST_END] = end as u64;
+    cells[BEST_VARIANT] = 0;
+    cells
+}
 
 fn start_of(end: u32, duration: u32) -> u32
     requires { ⌜ ((end ≡ 0 → ⊥) → duration ≤ end) ⌝ }
@@ -155,6 +155,22 @@ fn is_before(table: &Table, work: &Work, latest: u32, cells: &Cells) -> bool
     starts_before(table, work, cells)
 }
 
+// How many end as soon as the one kept, with one more of this latest end. A sooner end begins anew.
+fn ties_with(latest: u32, cells: &Cells) -> u64
+    requires { ⌜ IsTally (now cells) × (tallyOf (now cells) .ties < wordValues) ⌝ }
+    ensures { λ r. ⌜ r ≡ tiesWith (tallyOf (now (cells .entry))) latest ⌝ }
+{
+    let end = latest as u64;
+    let ties = cells[TIES];
+    if end < cells[BEST_END] {
+        return 1;
+    }
+    if end == cells[BEST_END] {
+        return ties + 1;
+    }
+    ties
+}
+
 // The schedule is counted, and kept where it comes before the one kept.
 fn rank(table: &Table, work: &Work, latest: u32, cells: &mut Cells)
     requires { ⌜ Leaf (now table) (now work) latest (now cells) × (tallyOf (now cells) .count < wordValues) ⌝ }
@@ -165,6 +181,7 @@ fn rank(table: &Table, work: &Work, latest: u32, cells: &mut Cells)
         (rowIn (now (table .entry)) (now (work .entry))) ⌝ }
 {
     cells[COUNT] = cells[COUNT] + 1;
+    cells[TIES] = ties_with(latest, cells);
     if is_before(table, work, latest, cells) {
         cells[BEST_END] = latest as u64;
         cells[BEST_VARIANT] = table[VARIANT] as u64;
@@ -210,24 +227,6 @@ pub fn leave_new(
     }
 }
 
-// The cells that hold a tally.
-pub fn cells_of(tally: Tally) -> Cells
-    ensures { λ r. ⌜ IsTally r × (tallyOf r ≡ tally) ⌝ }
-{
-    let mut cells = [0; TALLY_CELLS];
-    cells[COUNT] = tally.count;
-    cells[BEST_END] = tally.best_end;
-    cells[BEST_VARIANT] = tally.best_variant;
-    let best = tally.best;
-    let starts = best.starts;
-    let mut i = 0;
-    while i < MOST_ACTS {
-        cells[STARTS + i] = starts[i] as u64;
-        i += 1;
-    }
-    cells
-}
-
 // The tally that the cells hold.
 pub fn tally_of(cells: &Cells) -> Tally
     requires { ⌜ IsTally (now cells) ⌝ }
@@ -241,6 +240,7 @@ pub fn tally_of(cells: &Cells) -> Tally
     }
     Tally {
         count: cells[COUNT],
+        ties: cells[TIES],
         best_end: cells[BEST_END],
         best_variant: cells[BEST_VARIANT],
         best,

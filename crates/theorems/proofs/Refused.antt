@@ -1,7 +1,7 @@
 -- What the contracts of the calls say of refusals.
 use Prim.Native.Nat.{ℕ}
 use mathlib.Core.Bool.{Bool, true, false}
-use mathlib.Core.List.{List}
+use mathlib.Core.List.{List, [], _∷_, _++_}
 use mathlib.Core.Path.{_≡_, refl, ap, _∙_, subst}
 use lib.Dec.{leb, ltb}
 use lib.ListN.{length}
@@ -20,13 +20,12 @@ use Rattle.judge.proofs.Accepts.{accepted-valid}
 use Rattle.read.specs.Answer.{answerTo, readOf}
 use Rattle.write.specs.Answer.{placedBy, writeVariant, writeBy, writeOf}
 use Rattle.inspect.specs.Answer.{checkBy, checkOf}
-use Rattle.answers.specs.Count.{countBy, countOf}
 use Rattle.answers.specs.Listed.{cellsNeeded, listWithin, listBy, listOf}
 use Rattle.answers.specs.Shortest.{bestWithin, bestBy, bestOf}
 use Rattle.answers.specs.declared.Best.{Best}
 use Rattle.answers.specs.declared.ListAnswer.{ListAnswer}
 use Rattle.write.specs.declared.WriteAnswer.{WriteAnswer}
-use Rattle.vialbluff.specs.Cells.{readCells, writeCells, checkCells, countCells, listCells, bestCells, startsKept}
+use Rattle.vialbluff.specs.Cells.{refusalCells, readCells, writeCells, checkCells, listCells, bestCells, startsKept}
 use Rattle.vialbluff.specs.Cells.{WriteLeaves, ListLeaves, BestLeaves}
 use Rattle.theorems.specs.TurnedBack.{IsRefusal, LeavesArea, TurnedBack, Untouched}
 
@@ -35,38 +34,40 @@ abbrev kept : Best → List ℕ → List ℕ
 kept best before = startsKept (best .answer) (best .timetable .starts) before
 
 module _ (s : List ℕ) (r : Refusal) (e : judge s ≡ refuses r) where
-  wrote : (v : ℕ) (before after out : List ℕ) → WriteLeaves s v before after out → LeavesArea r before after out
+  wrote : (v : ℕ) (before after out : List ℕ) → WriteLeaves s v before after out
+      → LeavesArea (refusalCells r) before after out
   unfolding writeOf
   wrote v before after out w =
       record {
-        answer = w .cells ∙ ap (λ (o : Verdict). writeCells (writeBy o v before .answer)) e;
+        cells = w .cells ∙ ap (λ (o : Verdict). writeCells (writeBy o v before .answer)) e;
         area = w .area ∙ ap (λ (o : Verdict). writeBy o v before .area) e;
       }
 
-  listed : (cap : ℕ) (before after out : List ℕ) → ListLeaves s cap before after out → LeavesArea r before after out
+  listed : (cap : ℕ) (before after out : List ℕ) → ListLeaves s cap before after out
+      → LeavesArea (refusalCells r) before after out
   unfolding listOf
   listed cap before after out w =
       record {
-        answer = w .cells ∙ ap (λ (o : Verdict). listCells (listBy o cap before .answer)) e;
+        cells = w .cells ∙ ap (λ (o : Verdict). listCells (listBy o cap before .answer)) e;
         area = w .area ∙ ap (λ (o : Verdict). listBy o cap before .area) e;
       }
 
-  found : (cap : ℕ) (before after out : List ℕ) → BestLeaves s cap before after out → LeavesArea r before after out
+  found : (cap : ℕ) (before after out : List ℕ) → BestLeaves s cap before after out
+      → LeavesArea (refusalCells r ++ 0 ∷ []) before after out
   unfolding bestOf
   found cap before after out w =
       record {
-        answer = w .cells ∙ ap (λ (o : Verdict). bestCells (bestBy o cap .answer)) e;
+        cells = w .cells ∙ ap (λ (o : Verdict). bestCells (bestBy o cap .answer)) e;
         area = w .starts ∙ ap (λ (o : Verdict). kept (bestBy o cap) before) e;
       }
 
   pub turned-back : TurnedBack s r
-  unfolding readOf checkOf countOf
+  unfolding readOf checkOf
   turned-back =
       record {
         read = ap (λ (o : Verdict). readCells (answerTo o)) e;
         write = wrote;
         check = λ v row. ap (λ (o : Verdict). checkCells (checkBy o v row)) e;
-        count = λ cap. ap (λ (o : Verdict). countCells (countBy o cap)) e;
         list = listed;
         best = found;
       }

@@ -31,7 +31,7 @@ use Rattle.plan_exact.proofs.Shortest.{first-at-most}
 use Rattle.theorems.specs.Shortest.{ActiveSessions, SessionOfVariant, ShortestSession, Between}
 
 module _ (p : Plan) (t : Term) (valid : Valid p t) where
-  -- The number of active sessions is that of COUNT's pairs.
+  -- The number of active sessions is that of the pairs.
   pub active-count : (n : ℕ) → ActiveSessions p t n → n ≡ pairCount p t
   unfolding pairCount
   active-count n a =

@@ -48,13 +48,14 @@ use Rattle.inspect.specs.Words.{SessionOf}
 use Rattle.inspect.specs.declared.CheckAnswer.the-variants.{Checked}
 use Rattle.inspect.proofs.Meaning.{check-yes}
 use Rattle.answers.specs.Listed.{listOf}
-use Rattle.answers.specs.Shortest.{makespanIn, rowVariant, rowSpan, firstShortest, bestRow, bestBy, bestOf}
-use Rattle.answers.specs.Words.{Listing, ListingOf, FirstShortest}
+use Rattle.answers.specs.Shortest.{makespanIn, rowVariant, rowSpan, shortestCount, firstShortest, bestRow, bestBy}
+use Rattle.answers.specs.Shortest.{bestOf}
+use Rattle.answers.specs.Words.{Listing, ListingOf, FirstShortest, ShortestRows}
 use Rattle.answers.specs.declared.Best.{Best}
 use Rattle.answers.specs.declared.BestAnswer.the-variants.{Found, Refused}
 use Rattle.answers.specs.declared.ListAnswer.the-variants.{Listed}
 use Rattle.plan_exact.proofs.Found.{variant-scan}
-use Rattle.plan_exact.proofs.Meaning.{list-listing, pairs-listing, best-first}
+use Rattle.plan_exact.proofs.Meaning.{list-listing, pairs-listing, best-first, best-shortest}
 use Rattle.plan_exact.proofs.Pairs.{pair-checks}
 use Rattle.theorems.specs.TurnedBack.{TurnedBack, Untouched}
 use Rattle.theorems.specs.Shortest.{ActiveSessions, ShortestSession, Between}
@@ -101,13 +102,16 @@ listing-union = pairs-listing
 -- variant named with it, the makespan and the count are its own makespan and the number of those active sessions; any
 -- feasible session S of any variant, starts being any whole ticks from 0, has at least that makespan, and the two are
 -- equal exactly when no feasible session of any variant is shorter than S."
+--
+-- BEST's last number is that of the rows of the listing that have the least makespan.
 pub demand-3 : (s : List ℕ) (p : Plan) (t : Term) → judge s ≡ accepts p t
     → (n : ℕ) → ActiveSessions p t n
     → (cap : ℕ)
     → ((bestOf s cap .answer ≡ Refused OverCap) ↔ (cap < n))
     × (n ≤ cap
-    → (v span : ℕ) × (bestOf s cap .answer ≡ Found v span n)
-    × ShortestSession p t v span (bestOf s cap .timetable .starts))
+    → (v span m : ℕ) × (bestOf s cap .answer ≡ Found v span n m)
+    × ShortestSession p t v span (bestOf s cap .timetable .starts)
+    × ShortestRows p t m)
 unfolding bestOf
 demand-3 s p t accepted n active cap =
     let valid : Valid p t = accepted-valid s p t accepted .0 in
@@ -127,14 +131,17 @@ demand-3 s p t accepted n active cap =
       λ l. (
         v,
         makespanIn p t v (startsOf ss),
-        ap (λ (b : Best). b .answer) (found l) ∙ ap (Found v (makespanIn p t v (startsOf ss))) (sym count),
+        shortestCount p t,
+        ap (λ (b : Best). b .answer) (found l)
+            ∙ ap (λ (k : ℕ). Found v (makespanIn p t v (startsOf ss)) k (shortestCount p t)) (sym count),
         subst (ShortestSession p t v (makespanIn p t v (startsOf ss)))
             (sym (ap (λ (b : Best). b .timetable .starts) (found l)))
             (shortest-words p t valid v ss first),
+        best-shortest p t valid,
       ),
     )
   where
-    never : {v span m : ℕ} → Found v span m ≡ Refused OverCap → ⊥
+    never : {v span k m : ℕ} → Found v span k m ≡ Refused OverCap → ⊥
     never e = let z : _≡_ {A = ℕ} 0 1 = cc in omega arith
 
 -- Which shortest: BEST answers a row of that listing that stands before every other of its makespan. The makespan is at

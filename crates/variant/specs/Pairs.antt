@@ -1,6 +1,6 @@
 -- The pairs of a variant and an active session of it, variant by variant: each is the variant's number and then a
 -- start for each activity of the plan. A session that several variants have is there once, under the lowest of them.
--- COUNT is their number.
+-- `pairCount` is their number.
 use Prim.Native.Nat.{ℕ}
 use mathlib.Core.Bool.{Bool, not}
 use mathlib.Core.List.{List, _∷_, map}

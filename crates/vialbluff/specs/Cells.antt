@@ -1,7 +1,7 @@
--- An answer as four numbers: 0 and its values, or the refusal's number and figure.
+-- An answer as four numbers, BEST's as five: 0 and its values, or the refusal's number and figure.
 use Prim.Native.Nat.{ℕ}
 use mathlib.Core.Bool.{true, false}
-use mathlib.Core.List.{List, [], _∷_}
+use mathlib.Core.List.{List, [], _∷_, _++_}
 use mathlib.Core.Path.{_≡_}
 use Rattle.plan.specs.Refusals.{numberOf, figureOf}
 use Rattle.plan.specs.declared.Refusal.{Refusal}
@@ -16,8 +16,6 @@ use Rattle.answers.specs.Listed.{listOf}
 use Rattle.answers.specs.Shortest.{bestOf}
 use Rattle.answers.specs.declared.BestAnswer.{BestAnswer}
 use Rattle.answers.specs.declared.BestAnswer.the-variants as Shortest
-use Rattle.answers.specs.declared.CountAnswer.{CountAnswer}
-use Rattle.answers.specs.declared.CountAnswer.the-variants as Count
 use Rattle.answers.specs.declared.ListAnswer.{ListAnswer}
 use Rattle.answers.specs.declared.ListAnswer.the-variants as Listing
 
@@ -37,21 +35,17 @@ checkCells (Check.Checked true) = 0 ∷ 1 ∷ 0 ∷ 0 ∷ []
 checkCells (Check.Checked false) = 0 ∷ 0 ∷ 0 ∷ 0 ∷ []
 checkCells (Check.Refused r) = refusalCells r
 
-abbrev pub countCells : CountAnswer → List ℕ
-countCells (Count.Counted pairs) = 0 ∷ pairs ∷ 0 ∷ 0 ∷ []
-countCells (Count.Refused r) = refusalCells r
-
 abbrev pub listCells : ListAnswer → List ℕ
 listCells (Listing.Listed rows) = 0 ∷ rows ∷ 0 ∷ 0 ∷ []
 listCells (Listing.Refused r) = refusalCells r
 
 abbrev pub bestCells : BestAnswer → List ℕ
-bestCells (Shortest.Found variant makespan count) = 0 ∷ variant ∷ makespan ∷ count ∷ []
-bestCells (Shortest.Refused r) = refusalCells r
+bestCells (Shortest.Found variant makespan count shortest) = 0 ∷ variant ∷ makespan ∷ count ∷ shortest ∷ []
+bestCells (Shortest.Refused r) = refusalCells r ++ 0 ∷ []
 
 -- A refusal leaves the lent starts as they stood.
 abbrev pub startsKept : BestAnswer → List ℕ → List ℕ → List ℕ
-startsKept (Shortest.Found variant makespan count) found before = found
+startsKept (Shortest.Found variant makespan count shortest) found before = found
 startsKept (Shortest.Refused r) found before = before
 
 pub record WriteLeaves (s : List ℕ) (v : ℕ) (before after out : List ℕ) : Type 0 where

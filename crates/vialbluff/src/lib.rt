@@ -3,11 +3,9 @@
 ghost use mathlib.Core.Path.{_≡_};
 ghost use Rattle.read.specs.Answer.{readOf};
 ghost use Rattle.inspect.specs.Answer.{checkOf};
-ghost use Rattle.answers.specs.Count.{countOf};
-ghost use Rattle.vialbluff.specs.Cells.{refusalCells, readCells, writeCells, checkCells, countCells, listCells};
+ghost use Rattle.vialbluff.specs.Cells.{refusalCells, readCells, writeCells, checkCells, listCells};
 ghost use Rattle.vialbluff.specs.Cells.{bestCells, startsKept, WriteLeaves, ListLeaves, BestLeaves};
 use answers::BestAnswer;
-use answers::CountAnswer;
 use answers::ListAnswer;
 use inspect::CheckAnswer;
 use plan::MOST_ACTS;
@@ -53,15 +51,6 @@ fn of_check(a: CheckAnswer) -> [u64; 4]
     }
 }
 
-fn of_count(a: CountAnswer) -> [u64; 4]
-    ensures { λ c. ⌜ c ≡ countCells a ⌝ }
-{
-    match a {
-        CountAnswer::Counted(sessions) => [0, sessions, 0, 0],
-        CountAnswer::Refused(r) => refused(r),
-    }
-}
-
 fn of_list(a: ListAnswer) -> [u64; 4]
     ensures { λ c. ⌜ c ≡ listCells a ⌝ }
 {
@@ -71,7 +60,7 @@ fn of_list(a: ListAnswer) -> [u64; 4]
     }
 }
 
-fn of_best(a: BestAnswer) -> [u64; 4]
+fn of_best(a: BestAnswer) -> [u64; 5]
     ensures { λ c. ⌜ c ≡ bestCells a ⌝ }
 {
     match a {
@@ -79,8 +68,9 @@ fn of_best(a: BestAnswer) -> [u64; 4]
             variant,
             makespan,
             count,
-        } => [0, variant, makespan, count],
-        BestAnswer::Refused(r) => refused(r),
+            shortest,
+        } => [0, variant, makespan, count, shortest],
+        BestAnswer::Refused(r) => [plan::number(r), plan::figure(r), 0, 0, 0],
     }
 }
 
@@ -93,6 +83,7 @@ fn starts_of(a: BestAnswer, found: [u32; MOST_ACTS], before: [u32; MOST_ACTS]) -
             variant: _,
             makespan: _,
             count: _,
+            shortest: _,
         } => found,
         BestAnswer::Refused(_) => before,
     }
@@ -127,13 +118,6 @@ pub extern "C" fn vialbluff_check(
 }
 
 #[no_mangle]
-pub extern "C" fn vialbluff_count(file: &[u8], cap: u32, out: &mut [u64; 4])
-    ensures { λ _. ⌜ now (out .exit) ≡ countCells (countOf (now (file .entry)) cap) ⌝ }
-{
-    *out = of_count(calls::count(file, cap));
-}
-
-#[no_mangle]
 pub extern "C" fn vialbluff_list(file: &[u8], cap: u32, area: &mut [u32], out: &mut [u64; 4])
     ensures { λ _. ⌜ ListLeaves (now (file .entry)) cap (now (area .entry)) (now (area .exit)) (now (out .exit)) ⌝ }
 {
@@ -145,7 +129,7 @@ pub extern "C" fn vialbluff_best(
     file: &[u8],
     cap: u32,
     starts: &mut [u32; MOST_ACTS],
-    out: &mut [u64; 4],
+    out: &mut [u64; 5],
 )
     ensures { λ _. ⌜ BestLeaves (now (file .entry)) cap (now (starts .entry)) (now (starts .exit)) (now (out .exit)) ⌝ }
 {

@@ -1,4 +1,4 @@
-//! The six calls of the planner, and what they answer.
+//! The five calls of the planner, and what they answer.
 
 /// A timetable has a place for each of 24 activity numbers.
 pub const PLACES: usize = 24;
@@ -28,7 +28,10 @@ pub struct Size {
 pub struct Best {
     pub variant: u64,
     pub makespan: u64,
+    /// The active schedules of all variants, each counted once.
     pub count: u64,
+    /// How many of them have this makespan.
+    pub shortest: u64,
 }
 
 /// Each call takes the bytes of a plan file. A refusal leaves every area as it was.
@@ -40,9 +43,6 @@ pub trait Planner {
 
     /// Is the timetable a feasible schedule of the variant?
     fn check(&self, file: &[u8], variant: u64, starts: &Timetable) -> Answer<bool>;
-
-    /// The number of active schedules of all variants, each counted once.
-    fn count(&self, file: &[u8], cap: u32) -> Answer<u64>;
 
     /// Writes the rows at the front of the area, a variant and then a start for each activity; answers their number.
     /// They stand by variant, then by the start of activity 0, then of activity 1 and so on through the present ones.

@@ -23,7 +23,7 @@
  * A refusal changes no area. Success changes only what is named at the call. A timetable has a start for each of 24
  * activity numbers, and VIALBLUFF_ABSENT at an absent one. No call keeps a pointer; areas do not overlap.
  *
- * A call needs at most 640 KiB of stack: COUNT, LIST and BEST keep the order of each variant there.
+ * A call needs at most 640 KiB of stack: LIST and BEST keep the order of each variant there.
  */
 #ifndef VIALBLUFF_H
 #define VIALBLUFF_H
@@ -49,9 +49,6 @@ void vialbluff_write(const uint8_t *file, size_t file_len, uint32_t variant,
 void vialbluff_check(const uint8_t *file, size_t file_len, uint32_t variant,
                      const uint32_t starts[VIALBLUFF_PLACES], uint64_t out[4]);
 
-/* out[1] the number of active schedules of all variants. */
-void vialbluff_count(const uint8_t *file, size_t file_len, uint32_t cap, uint64_t out[4]);
-
 /* Writes a row for each active schedule at the front of the area: the lowest variant that has it and then a start for
  * each activity; out[1] the rows. They stand by variant, then by the start of activity 0, then of activity 1 and so on
  * through the present ones. */
@@ -59,9 +56,9 @@ void vialbluff_list(const uint8_t *file, size_t file_len, uint32_t cap,
                     uint32_t *area, size_t area_len, uint64_t out[4]);
 
 /* Writes the schedule of the first shortest of LIST's rows into `starts`; out[1] its variant, out[2] its makespan,
- * out[3] the number of rows. */
+ * out[3] the number of rows, out[4] how many of them are shortest. */
 void vialbluff_best(const uint8_t *file, size_t file_len, uint32_t cap,
-                    uint32_t starts[VIALBLUFF_PLACES], uint64_t out[4]);
+                    uint32_t starts[VIALBLUFF_PLACES], uint64_t out[5]);
 
 #ifdef __cplusplus
 }

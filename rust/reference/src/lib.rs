@@ -1,4 +1,4 @@
-//! An independent, plain implementation of the six calls, from the definitions alone.
+//! An independent, plain implementation of the five calls, from the definitions alone.
 //!
 //! The active schedules are found in four ways: `definition` tries every start, `orders` every order on every resource
 //! of one unit, `sequences` every sequence of the activities, and `insertion` adds activities by rising start. The
@@ -57,17 +57,21 @@ pub fn makespan_of(plan: &Plan, row: &[u32]) -> u64 {
 
 /// The first shortest of some rows, as BEST answers it.
 pub fn first_shortest(plan: &Plan, rows: &[Vec<u32>]) -> (Best, Timetable) {
-    let row = rows.iter().min_by_key(|row| makespan_of(plan, row)).unwrap();
+    let makespan = rows.iter().map(|row| makespan_of(plan, row)).min().unwrap();
+    let shortest: Vec<_> = rows.iter().filter(|row| makespan_of(plan, row) == makespan).collect();
+    let row = shortest[0];
     let mut starts = [MARK; PLACES];
     starts[..row.len() - 1].copy_from_slice(&row[1..]);
-    (Best { variant: u64::from(row[0]), makespan: makespan_of(plan, row), count: rows.len() as u64 }, starts)
+    let (variant, count, shortest) = (u64::from(row[0]), rows.len() as u64, shortest.len() as u64);
+    (Best { variant, makespan, count, shortest }, starts)
 }
 
 /// The reference as a planner. It may take long where the sessions are many.
 pub struct Reference;
 
 impl Reference {
-    fn rows(&self, file: &[u8], cap: u32) -> Answer<(Plan, Vec<Vec<u32>>)> {
+    /// The plan, and its rows if the cap allows them.
+    pub fn rows(&self, file: &[u8], cap: u32) -> Answer<(Plan, Vec<Vec<u32>>)> {
         let plan = file::parse(file)?;
         let mut steps = 4000;
         loop {
@@ -103,10 +107,6 @@ impl Planner for Reference {
         let plan = file::parse(file)?;
         let chosen = plan.variant(variant)?;
         Ok(is_session(&plan, &chosen, starts))
-    }
-
-    fn count(&self, file: &[u8], cap: u32) -> Answer<u64> {
-        Ok(self.rows(file, cap)?.1.len() as u64)
     }
 
     fn list(&self, file: &[u8], cap: u32, area: &mut [u32]) -> Answer<u64> {

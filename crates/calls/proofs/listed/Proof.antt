@@ -2,28 +2,28 @@
 -- sorted.
 use Prim.Native.Nat.{_+_}
 use native.Mathlib.Omega.{arith}
-use mathlib.Core.Path.{subst}
 use mathlib.Core.List.{[], _∷_}
 use borrow.Author.Needs.{needs}
 use denote.Ref.{now}
-use Rattle.term.specs.Variants.{variantCount}
-use Rattle.tally.specs.Seen.{kept}
-use Rattle.tally.specs.declared.Tally.{Tally}
-use Rattle.sweep.specs.Swept.{Swept}
 use Rattle.calls.proofs.Answers.{lists-refused, lists-short, lists-rows}
 use Rattle.calls.proofs.Judged.{cells-fit}
 use Rattle.calls.proofs.listed.Statement.{statement}
 use Rattle.calls.proofs.listed.Tie as tie
+
+slice-aggregate-tallied : tie.Need-slice-aggregate-tallied
+slice-aggregate-tallied c = search needs
 
 tallied-requires : tie.Need-tallied-requires
 tallied-requires c κs = search needs
 
 returns : tie.Need-returns
 returns c =
-    let a = c .before .before .before .args in
-    let r = c .before .tallied in
+    let first = c .before .before in
+    let a = first .before .before .before .args in
+    let r = first .tallied in
     λ t holds.
-    lists-refused (a .campaign) t holds (a .cap) 0 (0 ∷ []) (r .result) (r .ensures t holds) (now (a .area))
+    lists-refused (a .campaign) t holds (a .cap) 0 (0 ∷ []) (r .result) (r .last .1 .1 .1 .0, r .ensures t holds)
+    (now (a .area))
     (omega arith)
 
 add-needed : tie.Need-add-needed
@@ -31,27 +31,26 @@ add-needed c = search needs
 
 mul-needed : tie.Need-mul-needed
 mul-needed c =
-    let r = c .before .before in
-    let s = r .before .before in
+    let first = c .before .before .before in
+    let s = first .before .before .before in
     record {
-      fits = cells-fit (r .tallied .result .count) (s .args .campaign .tables .acts + 1) (omega arith)
+      fits = cells-fit (first .tallied .result .count) (s .args .campaign .tables .acts + 1) (omega arith)
           (omega (arith, s .pre .1 .ranged .acts));
     }
 
 returns-2 : tie.Need-returns-2
 returns-2 c =
-    let a = c .before .before .before .before .before .args in
-    let r = c .before .before .before .tallied in
+    let first = c .before .before .before .before in
+    let a = first .before .before .before .args in
+    let r = first .tallied in
     λ t holds.
-    lists-short (a .campaign) t holds (a .cap) 0 (0 ∷ []) (r .result) (r .ensures t holds) (now (a .area))
+    lists-short (a .campaign) t holds (a .cap) 0 (0 ∷ []) (r .result) (r .last .1 .1 .1 .0, r .ensures t holds)
+    (now (a .area))
     (omega arith)
     (omega arith)
 
-none-requires : tie.Need-none-requires
-none-requires c κs = search needs
-
-sweep-requires : tie.Need-sweep-requires
-sweep-requires c κs = search needs
+tallied-requires-2 : tie.Need-tallied-requires-2
+tallied-requires-2 c κs = search needs
 
 add-sort-rows : tie.Need-add-sort-rows
 add-sort-rows c = search needs
@@ -65,35 +64,32 @@ same-length c = search needs
 returns-3 : tie.Need-returns-3
 returns-3 c =
     let sort = c .before .before in
-    let sweep = sort .before .before .before .before .before in
-    let none = sweep .before .before in
-    let start = none .before .before .before .before in
-    let a = start .before .before .args in
-    let r = start .tallied in
+    let second = sort .before .before .before .before .before in
+    let first = second .before .before .before .before .before .before in
+    let a = first .before .before .before .args in
+    let r = first .tallied in
     λ t holds.
-    lists-rows (a .campaign) t holds (a .cap) 0 (0 ∷ []) (r .result) (r .ensures t holds) (now (a .area))
+    lists-rows (a .campaign) t holds (a .cap) 0 (0 ∷ []) (r .result) (r .last .1 .1 .1 .0, r .ensures t holds)
+    (now (a .area))
     (omega arith)
     (omega arith)
-    (sweep .sweep .result)
-    (sweep .sweep .last .1 .1 .1 .0)
+    (second .tallied2 .result)
+    (second .tallied2 .last .1 .1 .1 .0)
     (sort .sort-rows .last .0)
-    (subst
-    (λ (x : Tally). Swept (a .campaign) t (a .cap) (variantCount t) (kept x (now (a .area)))
-    (kept (sweep .sweep .result) (sweep .sweep .last .1 .1 .1 .0)))
-    (none .none .ensures) (sweep .sweep .ensures t holds))
+    (second .tallied2 .ensures t holds)
     (sort .sort-rows .ensures)
 
 pub listed-spec : {M : Type 1} → statement M
 listed-spec =
     tie.close
     (tie.spec
+    slice-aggregate-tallied
     tallied-requires
     returns
     add-needed
     mul-needed
     returns-2
-    none-requires
-    sweep-requires
+    tallied-requires-2
     add-sort-rows
     sort-rows-requires
     same-length

@@ -9,9 +9,9 @@ slice-aggregate-sweep-with c = search needs
 
 sweep-with-requires : tie.Need-sweep-with-requires
 sweep-with-requires c κs =
-    let s = c .before .before .before .before .before in
-    let (t, h) = s .pre in
-    (t, h, omega (arith, h .counted, c .before .before .if1 .taken))
+    let s = c .before .before .before .before .before .before in
+    let (t, h) = s .pre .0 in
+    ((t, h, omega (arith, h .counted, c .before .before .before .if1 .taken)), s .pre .1)
 
 same-length : tie.Need-same-length
 same-length c = search needs
@@ -24,9 +24,9 @@ slice-aggregate-sweep-with-2 c = search needs
 
 sweep-with-requires-2 : tie.Need-sweep-with-requires-2
 sweep-with-requires-2 c κs =
-    let s = c .before .before .before .before .before in
-    let (t, h) = s .pre in
-    (t, h, omega (arith, h .valid .few))
+    let s = c .before .before .before .before .before .before in
+    let (t, h) = s .pre .0 in
+    ((t, h, omega (arith, h .valid .few)), s .pre .1)
 
 same-length-2 : tie.Need-same-length-2
 same-length-2 c = search needs

@@ -90,7 +90,7 @@ returns c =
     let back =
     all-stored (a .cells .now) s (at .loop .cells) (at .loop .i) (omega arith) (at .before .pre .2 .size) size
     (at .loop .inv .1) in (
-      tally-stored (a .cells .now) s (at .loop .cells) (at .before .pre .2 .size) size
+      tally-stored (a .cells .now) s (at .loop .cells) (at .before .pre .2) size
           (timetable-below t w (pre .0) (pre .1)) back,
       back,
     )

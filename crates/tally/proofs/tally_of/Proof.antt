@@ -8,7 +8,7 @@ use Rattle.timetable.specs.Mark.{places}
 use Rattle.tally.proofs.Rows.{one-copied}
 use borrow.Author.Needs.{needs}
 use Rattle.tally.proofs.tally_of.Statement.{statement}
-use Rattle.tally.specs.Seen.{startsFrom, countCell, bestEndCell, bestVariantCell}
+use Rattle.tally.specs.Seen.{startsFrom, countCell, tiesCell, bestEndCell, bestVariantCell}
 use Rattle.tally.proofs.tally_of.Tie as tie
 
 abbrev Inv-loop : tie.InvT-loop
@@ -71,9 +71,12 @@ element-copy-out-t20 c = omega arith
 element-copy-out-t23 : tie.Need-element-copy-out-t23 Inv-loop μ-loop
 element-copy-out-t23 c = omega arith
 
+element-copy-out-t26 : tie.Need-element-copy-out-t26 Inv-loop μ-loop
+element-copy-out-t26 c = omega arith
+
 returns : tie.Need-returns Inv-loop μ-loop
 returns c =
-    let at = c .before .before .before .before in
+    let at = c .before .before .before .before .before in
     let cells = at .before .before .args .cells .now in
     let all : at .loop .i ≡ places = omega arith in
     let same : at .loop .best .starts ≡ drop startsFrom cells =
@@ -85,6 +88,7 @@ returns c =
     λ i.
     record {
       count = getD cells countCell 0;
+      ties = getD cells tiesCell 0;
       «best_end» = getD cells bestEndCell 0;
       «best_variant» = getD cells bestVariantCell 0;
       best = record { starts = same i };
@@ -110,4 +114,5 @@ tally-of-spec =
     element-copy-out-t17
     element-copy-out-t20
     element-copy-out-t23
+    element-copy-out-t26
     returns)

@@ -101,26 +101,24 @@ static int stands_before(const uint32_t *a, const uint32_t *b) {
   return i < WIDTH && a[i] < b[i];
 }
 
-/* The plan has so many variants and sessions, or more sessions than the cap if they are 0. */
+/* The plan has so many variants and sessions, all of one makespan, or more sessions than the cap if they are 0. */
 static void call_each(const char *plan, uint64_t variants, uint64_t sessions) {
   const uint8_t *file = (const uint8_t *)plan;
   const size_t length = strlen(plan);
   const uint64_t refused = sessions == 0 ? 7 : 0;
   uint32_t starts[VIALBLUFF_PLACES] = {0};
-  uint64_t out[4];
+  uint64_t out[4], best[5];
   vialbluff_read(file, length, out);
   assert(out[0] == 0 && out[1] == ACTS && out[3] == variants);
   vialbluff_write(file, length, 0, text, sizeof text, out);
   assert(out[0] == 0 && (variants > 1 || (out[1] == length && memcmp(text, plan, length) == 0)));
   vialbluff_check(file, length, 0, starts, out);
   assert(out[0] == 0 && out[1] == 0);
-  vialbluff_count(file, length, CAP, out);
-  assert(out[0] == refused && out[1] == sessions);
   vialbluff_list(file, length, CAP, area, CELLS, out);
   assert(out[0] == refused && out[1] == sessions);
   for (uint64_t i = 1; i < sessions; i++) assert(stands_before(area + (i - 1) * WIDTH, area + i * WIDTH));
-  vialbluff_best(file, length, CAP, starts, out);
-  assert(out[0] == refused && out[3] == sessions);
+  vialbluff_best(file, length, CAP, starts, best);
+  assert(best[0] == refused && best[3] == sessions && best[4] == sessions);
 }
 
 static void *call_all(void *none) {

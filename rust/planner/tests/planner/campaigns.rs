@@ -20,14 +20,15 @@ fn variants(text: &str) -> Answer<u64> {
 
 fn best(text: &str, cap: u32) -> Answer<(Best, [u32; 24])> {
     let mut starts = [7; 24];
-    let best = crate::planner().best(&file(text), cap, &mut starts)?;
-    Ok((best, starts))
+    let best = crate::planner().best(&file(text), cap, &mut starts);
+    assert!(best.is_ok() || starts == [7; 24]);
+    best.map(|best| (best, starts))
 }
 
 /// The rows that LIST gives.
 fn listed(text: &str) -> Vec<Vec<u32>> {
     let (planner, file) = (crate::planner(), file(text));
-    let count = planner.count(&file, u32::MAX).unwrap();
+    let count = best(text, u32::MAX).unwrap().0.count;
     let width = planner.read(&file).unwrap().activities as usize + 1;
     let mut area = vec![0; count as usize * width];
     assert_eq!(planner.list(&file, u32::MAX, &mut area), Ok(count));
@@ -47,7 +48,7 @@ fn dot_test() {
     let size = Size { activities: 5, nodes: 9, variants: 2 };
     assert_eq!(crate::planner().read(&file(DOT_TEST)), Ok(size));
     let (found, starts) = best(DOT_TEST, 1_000_000).unwrap();
-    assert_eq!(found, Best { variant: 0, makespan: 10, count: 3 });
+    assert_eq!(found, Best { variant: 0, makespan: 10, count: 3, shortest: 1 });
     assert_eq!(starts[..5], [0, MARK, MARK, 4, 4]);
     assert_eq!(starts[5..], [MARK; 19]);
 }
@@ -69,15 +70,9 @@ fn dot_test_variant_1() {
 
 #[test]
 fn dot_test_cap_and_area() {
-    let (planner, plan) = (crate::planner(), file(DOT_TEST));
-    assert_eq!(planner.count(&plan, 3), Ok(3));
-    for cap in [0, 2] {
-        assert_eq!(planner.count(&plan, cap), Err(refusal(7, 0)));
-        assert_eq!(planner.list(&plan, cap, &mut [0; 18]), Err(refusal(7, 0)));
-        assert_eq!(best(DOT_TEST, cap), Err(refusal(7, 0)));
-    }
-    assert_eq!(planner.list(&plan, 3, &mut [0; 18]), Ok(3));
-    assert_eq!(planner.list(&plan, 3, &mut [0; 17]), Err(refusal(8, 18)));
+    counted(DOT_TEST, 3, 1);
+    assert_eq!(crate::planner().list(&file(DOT_TEST), 0, &mut [0; 18]), Err(refusal(7, 0)));
+    assert_eq!(best(DOT_TEST, 0), Err(refusal(7, 0)));
 }
 
 #[test]
@@ -103,15 +98,14 @@ fn groups_of_one() {
     assert_eq!(variants("plan=1/res=1/acts=2/act=0,1/act=0,1/nodes=1/node=a,1"), Ok(1));
 }
 
-/// Caps on both sides of the number of sessions.
-fn counted(text: &str, sessions: u32) {
+/// Caps on both sides of the number of sessions, of which so many are shortest.
+fn counted(text: &str, sessions: u32, shortest: u64) {
     let (planner, plan) = (crate::planner(), file(text));
     let cells = sessions as usize * (planner.read(&plan).unwrap().activities as usize + 1);
-    assert_eq!(planner.count(&plan, sessions), Ok(u64::from(sessions)));
     assert_eq!(planner.list(&plan, sessions, &mut vec![0; cells]), Ok(u64::from(sessions)));
     assert_eq!(planner.list(&plan, sessions, &mut vec![0; cells - 1]), Err(refusal(8, cells as u64)));
-    assert_eq!(best(text, sessions).map(|found| found.0.count), Ok(u64::from(sessions)));
-    assert_eq!(planner.count(&plan, sessions - 1), Err(refusal(7, 0)));
+    let numbers = best(text, sessions).map(|(found, _)| (found.count, found.shortest));
+    assert_eq!(numbers, Ok((u64::from(sessions), shortest)));
     assert_eq!(planner.list(&plan, sessions - 1, &mut vec![0; cells]), Err(refusal(7, 0)));
     assert_eq!(best(text, sessions - 1), Err(refusal(7, 0)));
 }
@@ -121,8 +115,8 @@ fn activity_0_twice() {
     let x = "plan=1/res=1/acts=1/act=0,1/nodes=3/node=x,2/node=a,0/node=a,0";
     assert_eq!(variants(x), Ok(2));
     assert_eq!(listed(x), [[0, 0]]);
-    counted(x, 1);
-    assert_eq!(best(x, 1).unwrap().0, Best { variant: 0, makespan: 1, count: 1 });
+    counted(x, 1, 1);
+    assert_eq!(best(x, 1).unwrap().0, Best { variant: 0, makespan: 1, count: 1, shortest: 1 });
     assert_eq!(variants(&x.replace('x', "p")), Err(refusal(5, 0)));
 }
 
@@ -133,8 +127,8 @@ fn active_for_0_and_2_but_not_1() {
         /node=s,2/node=a,1/node=a,0/node=p,2/node=a,0/node=a,1";
     assert_eq!(variants(text), Ok(3));
     assert_eq!(listed(text), [[0, 0, 3], [1, 4, 0]]);
-    counted(text, 2);
-    assert_eq!(best(text, 2).unwrap().0, Best { variant: 0, makespan: 7, count: 2 });
+    counted(text, 2, 2);
+    assert_eq!(best(text, 2).unwrap().0, Best { variant: 0, makespan: 7, count: 2, shortest: 2 });
 }
 
 /// Two devices: that activity 1 waits for 0 is feasible in variant 0, but active only in variants 1 and 3.
@@ -144,7 +138,7 @@ fn feasible_for_a_lower_variant() {
         /node=s,2/node=a,0/node=a,1/node=p,2/node=a,1/node=a,0/node=s,2/node=a,0/node=a,1";
     assert_eq!(variants(text), Ok(4));
     assert_eq!(listed(text), [[0, 0, 0], [1, 0, 3]]);
-    counted(text, 2);
+    counted(text, 2, 1);
 }
 
 /// The shortest session is of both variants, whose orders differ; the other session is of one alone.
@@ -160,9 +154,9 @@ fn shortest_of_two_variants() {
     {
         assert_eq!(variants(&text), Ok(2));
         assert_eq!(listed(&text), rows);
-        counted(&text, 2);
+        counted(&text, 2, 1);
         let (found, starts) = best(&text, 2).unwrap();
-        assert_eq!(found, Best { variant: 0, makespan: 5, count: 2 });
+        assert_eq!(found, Best { variant: 0, makespan: 5, count: 2, shortest: 1 });
         assert_eq!(starts[..3], [2, 0, 2]);
     }
 }
@@ -173,7 +167,7 @@ fn other_activities() {
     let text =
         "plan=1/res=2/acts=2/act=0,1/act=1,1/nodes=7/node=x,4/node=a,0/node=p,2/node=a,0/node=a,1/node=a,1/node=a,0";
     assert_eq!(listed(text), [[0, 0, MARK], [1, 0, 0], [2, MARK, 0]]);
-    counted(text, 3);
+    counted(text, 3, 3);
 }
 
 /// 63 variants of one session each, which is the same for all.
@@ -182,7 +176,7 @@ fn more_variants_than_sessions() {
     let text = format!("plan=1/res=1/acts=1/act=0,1/nodes=64/node=x,63{}", "/node=a,0".repeat(63));
     assert_eq!(variants(&text), Ok(63));
     assert_eq!(listed(&text), [[0, 0]]);
-    counted(&text, 1);
+    counted(&text, 1, 1);
 }
 
 #[test]
@@ -202,6 +196,7 @@ fn two_contested_resources() {
         "plan=1/res=2/acts=4/act=0,1/act=0,1/act=1,1/act=1,1/nodes=5/node=p,4/node=a,0/node=a,1/node=a,2/node=a,3";
     assert_eq!(listed(text), [[0, 0, 1, 0, 1], [0, 0, 1, 1, 0], [0, 1, 0, 0, 1], [0, 1, 0, 1, 0]]);
     assert_eq!(makespans(text), [2; 4]);
+    counted(text, 4, 4);
     assert_eq!(best(text, 4).unwrap().1[..4], [0, 1, 0, 1]);
 }
 
@@ -210,6 +205,7 @@ fn a_free_resource_waits() {
     let text = "plan=1/res=2/acts=4/act=0,10/act=1,1/act=0,1/act=1,20/nodes=6/node=p,2/node=a,0/node=s,3/node=a,1\
         /node=a,2/node=a,3";
     assert_eq!(makespans(text), [22, 31]);
+    counted(text, 2, 1);
     assert_eq!(best(text, 2).unwrap().0.makespan, 22);
 }
 
@@ -226,9 +222,9 @@ fn starts_past_65535() {
         [0, 80000, 0, 20000, 40000, 60000],
     ];
     assert_eq!(listed(text), rows);
-    counted(text, 5);
+    counted(text, 5, 5);
     let (found, starts) = best(text, 5).unwrap();
-    assert_eq!(found, Best { variant: 0, makespan: 80001, count: 5 });
+    assert_eq!(found, Best { variant: 0, makespan: 80001, count: 5, shortest: 5 });
     assert_eq!(starts[..5], rows[0][1..]);
 }
 
@@ -239,7 +235,7 @@ fn longest_makespan() {
     let text = format!("plan=1/res=1/acts=24{}/nodes=25/node=s,24{leaves}", "/act=0,20000".repeat(24));
     let in_turn: [u32; 24] = std::array::from_fn(|i| 20000 * i as u32);
     assert_eq!(listed(&text), [[&[0], &in_turn[..]].concat()]);
-    assert_eq!(best(&text, 1), Ok((Best { variant: 0, makespan: 480_000, count: 1 }, in_turn)));
+    assert_eq!(best(&text, 1), Ok((Best { variant: 0, makespan: 480_000, count: 1, shortest: 1 }, in_turn)));
 }
 
 /// CHECK of variant 0 with these starts, and the mark behind them.
@@ -299,6 +295,7 @@ fn example_2() {
         "plan=1/res=4/acts=8/act=0,1/act=1,2/act=2,2/act=1,1/act=0,1/act=0,2/act=3,1/act=1,2/nodes=13/node=p,4\
         /node=s,2/node=p,2/node=a,0/node=a,1/node=a,2/node=s,2/node=a,3/node=a,4/node=a,5/node=s,2/node=a,6/node=a,7";
     assert_eq!(makespans(second), [5, 5, 5, 5, 5, 6, 6, 6, 7, 7, 7, 7]);
+    counted(second, 12, 5);
     assert_eq!(best(second, 12).unwrap().0.makespan, 5);
 }
 
@@ -320,9 +317,9 @@ fn two_arm_bench() {
         [0, 5, 2, 9, 0, 0],
     ];
     assert_eq!(listed(TWO_ARM_BENCH), rows);
-    counted(TWO_ARM_BENCH, 9);
+    counted(TWO_ARM_BENCH, 9, 2);
     let (found, starts) = best(TWO_ARM_BENCH, 9).unwrap();
-    assert_eq!(found, Best { variant: 0, makespan: 9, count: 9 });
+    assert_eq!(found, Best { variant: 0, makespan: 9, count: 9, shortest: 2 });
     assert_eq!(starts[..5], [0, 4, 7, 0, 0]);
 }
 
@@ -340,6 +337,7 @@ fn side_by_side(capacities: &[u64], activities: &[&str]) -> String {
 fn two_arms() {
     let text = side_by_side(&[2], &["3,1", "2,1", "2,1", "1,1"]);
     assert_eq!(makespans(&text), [4, 4, 4, 4, 5, 5, 5, 5, 5, 5, 5]);
+    counted(&text, 11, 4);
     assert_eq!(best(&text, 11).unwrap().1[..4], [0, 0, 2, 3]);
 }
 
@@ -347,18 +345,21 @@ fn two_arms() {
 fn arm_and_camera() {
     let text = side_by_side(&[2, 1], &["2,1,1", "3,0,1", "1,1,0", "2,2,0"]);
     assert_eq!(listed(&text), [[0, 0, 2, 0, 2], [0, 2, 4, 2, 0], [0, 3, 0, 0, 1], [0, 3, 0, 2, 0]]);
+    counted(&text, 4, 3);
 }
 
 #[test]
 fn both_arms() {
     let text = side_by_side(&[2], &["3,2", "2,1", "4,1"]);
     assert_eq!(listed(&text), [[0, 0, 3, 3], [0, 2, 0, 5], [0, 4, 0, 0]]);
+    counted(&text, 3, 2);
 }
 
 #[test]
 fn shared_three_ways() {
     let text = side_by_side(&[3], &["2,1", "3,1", "1,1", "2,2"]);
     assert_eq!(makespans(&text), [4, 4, 4, 5, 5, 5, 5]);
+    counted(&text, 7, 3);
     assert_eq!(best(&text, 7).unwrap().1[..4], [0, 0, 0, 2]);
 }
 
@@ -366,7 +367,8 @@ fn shared_three_ways() {
 #[test]
 fn load_rounded_up() {
     let text = side_by_side(&[2], &["3,1", "2,1", "2,1"]);
-    assert_eq!(best(&text, 10).unwrap().0.makespan, 4);
+    counted(&text, 3, 2);
+    assert_eq!(best(&text, 3).unwrap().0.makespan, 4);
 }
 
 /// An activity without a device starts at once, and with no device used nothing waits.
@@ -374,6 +376,7 @@ fn load_rounded_up() {
 fn without_device() {
     let text = side_by_side(&[1], &["2,1", "3,1", "4,0"]);
     assert_eq!(listed(&text), [[0, 0, 2, 0], [0, 3, 0, 0]]);
+    counted(&text, 2, 2);
     assert_eq!(listed(&side_by_side(&[1, 15], &["2,0,0", "3,0,0", "4,0,0"])), [[0, 0, 0, 0]]);
 }
 
@@ -434,7 +437,7 @@ fn longest_files() {
     let two = format!("plan=2/res=16{}/acts=24{}{nodes}", "/cap=15".repeat(16), activity.repeat(24));
     assert_eq!((file(&one).len(), file(&two).len()), (983, 2175));
     assert_eq!((variants(&one), variants(&two)), (Ok(63), Ok(63)));
-    counted(&two, 1);
+    counted(&two, 1, 1);
     assert_eq!(variants(&(two + "/")), Err(refusal(1, 0)));
     assert_eq!(variants(&(one.clone() + "/")), Err(refusal(2, 93)));
     assert_eq!(variants(&(one.clone() + &"/".repeat(1192))), Err(refusal(2, 93)));

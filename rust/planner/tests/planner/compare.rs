@@ -27,6 +27,8 @@ pub enum Sessions {
 
 pub struct Listed {
     pub sessions: u64,
+    /// Are several of them shortest, but not all?
+    pub tied: bool,
     /// The pairs of a variant and an active session of it.
     pub pairs: u64,
     /// Does some variant have sessions of lower variants and sessions of its own?
@@ -42,8 +44,10 @@ impl Listed {
     fn new(plan: &Plan, rows: &[Vec<u32>], active: &[u64]) -> Listed {
         let mut own = vec![0; active.len()];
         rows.iter().for_each(|row| own[row[0] as usize] += 1);
+        let Best { count, shortest, .. } = first_shortest(plan, rows).0;
         Listed {
-            sessions: rows.len() as u64,
+            sessions: count,
+            tied: 1 < shortest && shortest < count,
             pairs: active.iter().sum(),
             mixed: own.iter().zip(active).any(|(own, all)| 0 < *own && own < all),
             late: rows.concat().iter().any(|&cell| 65535 < cell && cell < MARK),
@@ -137,9 +141,8 @@ fn every_call_refuses(planner: &impl Planner, file: &[u8], refused: Refusal, ran
     refuses_cap(planner, file, refused, cap, random)
 }
 
-/// COUNT, LIST and BEST refuse.
+/// LIST and BEST refuse.
 fn refuses_cap(planner: &impl Planner, file: &[u8], refused: Refusal, cap: u32, random: &mut Random) -> Difference {
-    same("count", Err(refused), planner.count(file, cap))?;
     let length = random.pick(&[0, 5, 300]);
     let mut area = Area::new(random, length, |n| n as u32);
     same("list", Err(refused), planner.list(file, cap, area.lent()))?;
@@ -254,7 +257,7 @@ fn compare_check(planner: &impl Planner, file: &[u8], plan: &Plan, random: &mut 
     Ok(())
 }
 
-/// COUNT, LIST and BEST.
+/// LIST and BEST.
 fn compare_sessions(planner: &impl Planner, file: &[u8], plan: &Plan, random: &mut Random) -> Result<Sessions, String> {
     refuses_cap(planner, file, refusal(7, 0), 0, random)?;
     let many = plan.term.variant_count() > 200;
@@ -277,7 +280,6 @@ fn compare_sessions(planner: &impl Planner, file: &[u8], plan: &Plan, random: &m
             refuses_cap(planner, file, refusal(7, 0), count as u32 - 1, random)?;
             let larger = random.pick(&[count as u32 + 1, 1_000_000, u32::MAX]);
             for cap in [count as u32, larger] {
-                same("count", Ok(count), planner.count(file, cap))?;
                 compare_list(planner, file, cap, &rows, random)?;
                 compare_best(planner, file, cap, plan, &rows, random)?;
             }

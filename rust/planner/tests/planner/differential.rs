@@ -37,6 +37,7 @@ fn run(numbers: impl Iterator<Item = u64>) -> Tally {
             Sessions::Listed(listed) => {
                 add("accepted, sessions listed", 1);
                 add("accepted, sessions listed, 4096 variants", u64::from(seen.variants == 4096));
+                add("accepted, sessions listed, several shortest but not all", u64::from(listed.tied));
                 add("accepted, sessions listed, fewer than pairs", u64::from(listed.sessions < listed.pairs));
                 add("accepted, sessions listed, part of a variant's under lower ones", u64::from(listed.mixed));
                 add("accepted, sessions listed, a start past 65535", u64::from(listed.late));
@@ -78,6 +79,7 @@ fn differential() {
             assert!(all[&format!("accepted, the longest of edition {edition}")] > 100);
         }
         assert!(all["accepted, sessions listed, 4096 variants"] > 10);
+        assert!(all["accepted, sessions listed, several shortest but not all"] > plans / 20);
         assert!(all["accepted, sessions listed, fewer than pairs"] > plans / 10);
         assert!(all["accepted, sessions listed, part of a variant's under lower ones"] > plans / 50);
         assert!(all["accepted, sessions listed, a start past 65535"] > plans / 100);

@@ -44,8 +44,6 @@ enum Fault {
     CheckMarks65535,
     CheckEndsWrap,
     CheckWantsActive,
-    CountInvented,
-    RefusesCapUnseen,
     ListWritesNothing,
     ListRepeatsARow,
     ListRepeatsEqualStarts,
@@ -68,6 +66,8 @@ enum Fault {
     SharedIfFeasible,
     SharedByStartsAlone,
     CapCountsPairs,
+    BestRefusesCapUnseen,
+    BestTouchesOnRefusal,
     BestOfFirstVariant,
     BestByLongestChain,
     BestLeavesMarks,
@@ -76,6 +76,12 @@ enum Fault {
     BestIsLastShortest,
     BestForgetsVariants,
     BestCountsPairs,
+    BestCountInvented,
+    ShortestIsOne,
+    ShortestIsAll,
+    ShortestOfItsVariant,
+    ShortestCountsPairs,
+    ShortestSoFar,
 }
 
 /// Those in which a session of several variants is not one row under the lowest.
@@ -101,12 +107,7 @@ impl Faulty {
 
     /// The rows of the plan with the fault in them.
     fn rows(&self, file: &[u8], cap: u32) -> Answer<(Plan, Vec<Vec<u32>>)> {
-        let count = Reference.count(file, cap)?;
-        let plan = parse(file).unwrap();
-        let width = plan.activities.len() + 1;
-        let mut area = vec![0; count as usize * width];
-        Reference.list(file, cap, &mut area)?;
-        let mut rows: Vec<Vec<u32>> = area.chunks(width).map(<[u32]>::to_vec).collect();
+        let (plan, mut rows) = Reference.rows(file, cap)?;
         if self.has(Fault::FirstVariantForAll) {
             let first: Vec<_> = rows.iter().filter(|row| row[0] == 0).cloned().collect();
             rows.iter_mut().enumerate().for_each(|(i, row)| row[1..].copy_from_slice(&first[i % first.len()][1..]));
@@ -134,7 +135,7 @@ impl Faulty {
         if SHARED.contains(&self.0) {
             rows = self.shared_rows(&plan);
         }
-        if self.has(Fault::CapCountsPairs) && pairs(&plan) > u64::from(cap) {
+        if self.has(Fault::CapCountsPairs) && pairs(&plan).len() as u64 > u64::from(cap) {
             return Err(refusal(7, 0));
         }
         Ok((plan, rows))
@@ -201,6 +202,31 @@ impl Faulty {
         plan
     }
 
+    /// How many rows BEST counts, and how many as short as the one that it found.
+    fn numbers(&self, plan: &Plan, rows: &[Vec<u32>], found: &[u32]) -> (u64, u64) {
+        let count = match self.0 {
+            Fault::BestCountInvented => rows.len() + 1,
+            Fault::BestCountsPairs => pairs(plan).len(),
+            _ => rows.len(),
+        };
+        let makespan = makespan_of(plan, found);
+        let is_as_short = |row: &&Vec<u32>| makespan_of(plan, row) == makespan;
+        let mut least = u64::MAX;
+        let is_least_so_far = |row: &&Vec<u32>| {
+            least = least.min(makespan_of(plan, row));
+            makespan_of(plan, row) == least
+        };
+        let shortest = match self.0 {
+            Fault::ShortestIsOne => 1,
+            Fault::ShortestIsAll => rows.len(),
+            Fault::ShortestOfItsVariant => rows.iter().filter(is_as_short).filter(|row| row[0] == found[0]).count(),
+            Fault::ShortestCountsPairs => pairs(plan).iter().filter(|&&other| other == makespan).count(),
+            Fault::ShortestSoFar => rows.iter().filter(is_least_so_far).count(),
+            _ => rows.iter().filter(is_as_short).count(),
+        };
+        (count as u64, shortest as u64)
+    }
+
     fn variant(&self, plan: &Plan, variant: u64) -> u64 {
         let count = plan.term.variant_count();
         if self.has(Fault::VariantsReversed) && variant < count {
@@ -226,9 +252,13 @@ fn active(project: &Project) -> Vec<Schedule> {
     }
 }
 
-/// The number of pairs of a variant and an active session of it.
-fn pairs(plan: &Plan) -> u64 {
-    projects(plan).iter().map(|project| active(project).len() as u64).sum()
+/// The makespans of the pairs of a variant and an active session of it.
+fn pairs(plan: &Plan) -> Vec<u64> {
+    let mut makespans = vec![];
+    for project in projects(plan) {
+        makespans.extend(active(&project).iter().map(|starts| project.makespan(starts)));
+    }
+    makespans
 }
 
 /// Does an activity wait although its predecessors are done and there is room for it on a tick before its start?
@@ -433,15 +463,6 @@ impl Planner for Faulty {
         })
     }
 
-    fn count(&self, file: &[u8], cap: u32) -> Answer<u64> {
-        let count = self.rows(file, cap)?.1.len() as u64;
-        match self.0 {
-            Fault::CountInvented => Ok(count + 1),
-            Fault::RefusesCapUnseen if cap < 1000 => Err(refusal(7, 0)),
-            _ => Ok(count),
-        }
-    }
-
     fn list(&self, file: &[u8], cap: u32, area: &mut [u32]) -> Answer<u64> {
         let (_, mut rows) = self.rows(file, cap)?;
         match self.0 {
@@ -473,8 +494,12 @@ impl Planner for Faulty {
     }
 
     fn best(&self, file: &[u8], cap: u32, starts: &mut Timetable) -> Answer<Best> {
+        if self.has(Fault::BestTouchesOnRefusal) {
+            starts[0] = 0;
+        }
         let (plan, mut rows) = self.rows(file, cap)?;
         match self.0 {
+            Fault::BestRefusesCapUnseen if cap < 1000 => return Err(refusal(7, 0)),
             Fault::BestIsLastShortest => rows.reverse(),
             Fault::BestForgetsVariants => rows.sort_by_key(|row| row[1..].to_vec()),
             _ => {}
@@ -498,8 +523,8 @@ impl Planner for Faulty {
             Fault::BestCutsStarts => cut_starts(starts),
             _ => {}
         }
-        let count = if self.has(Fault::BestCountsPairs) { pairs(&plan) } else { rows.len() as u64 };
-        Ok(Best { variant: u64::from(row[0]), makespan: makespan_of(&plan, row), count })
+        let (count, shortest) = self.numbers(&plan, &rows, row);
+        Ok(Best { variant: u64::from(row[0]), makespan: makespan_of(&plan, row), count, shortest })
     }
 }
 
@@ -546,8 +571,6 @@ fn each_fault_is_found_out() {
         Fault::CheckMarks65535,
         Fault::CheckEndsWrap,
         Fault::CheckWantsActive,
-        Fault::CountInvented,
-        Fault::RefusesCapUnseen,
         Fault::ListWritesNothing,
         Fault::ListRepeatsARow,
         Fault::ListRepeatsEqualStarts,
@@ -564,6 +587,8 @@ fn each_fault_is_found_out() {
         Fault::NothingWaits,
         Fault::SlidesOnly,
         Fault::CapCountsPairs,
+        Fault::BestRefusesCapUnseen,
+        Fault::BestTouchesOnRefusal,
         Fault::BestOfFirstVariant,
         Fault::BestByLongestChain,
         Fault::BestLeavesMarks,
@@ -572,6 +597,12 @@ fn each_fault_is_found_out() {
         Fault::BestIsLastShortest,
         Fault::BestForgetsVariants,
         Fault::BestCountsPairs,
+        Fault::BestCountInvented,
+        Fault::ShortestIsOne,
+        Fault::ShortestIsAll,
+        Fault::ShortestOfItsVariant,
+        Fault::ShortestCountsPairs,
+        Fault::ShortestSoFar,
     ];
     for fault in others.into_iter().chain(SHARED) {
         assert!(found_out(fault).is_some(), "{fault:?} was not found out");

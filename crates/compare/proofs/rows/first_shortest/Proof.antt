@@ -1,8 +1,8 @@
--- `shortest` is safe and ends.
+-- `first_shortest` is safe and ends.
 use Prim.Native.Nat.{_-_}
 use borrow.Author.Needs.{needs}
-use Rattle.compare.proofs.rows.shortest.Statement.{statement}
-use Rattle.compare.proofs.rows.shortest.Tie as tie
+use Rattle.compare.proofs.rows.first_shortest.Statement.{statement}
+use Rattle.compare.proofs.rows.first_shortest.Tie as tie
 
 abbrev Inv-loop : tie.InvT-loop
 Inv-loop file e own best₀ at₀ k₀ k-end best at k = Unit
@@ -10,8 +10,8 @@ Inv-loop file e own best₀ at₀ k₀ k-end best at k = Unit
 abbrev μ-loop : tie.MeasureT-loop
 μ-loop file e own best₀ at₀ k₀ k-end best at k = k-end - k
 
-pub shortest-spec : {M : Type 1} → statement M
-shortest-spec =
+pub first-shortest-spec : {M : Type 1} → statement M
+first-shortest-spec =
     tie.close
     (tie.spec
     Inv-loop
