@@ -7,11 +7,12 @@ use lib.ListN.{length, drop}
 use Rattle.plan.specs.Plan.{Plan}
 use Rattle.term.specs.Term.{Term}
 use Rattle.term.specs.Variants.{variantCount}
+use Rattle.schedule.specs.Sessions.{startsOf}
 use Rattle.variant.specs.Project.{variantAt}
-use Rattle.variant.specs.Words.{ActiveSession, Sooner}
+use Rattle.variant.specs.Words.{ActiveSession, Makespan, Sooner}
 use Rattle.judge.specs.Judge.{judge, accepts}
 use Rattle.base.specs.Lists.{cellsOf}
-use Rattle.answers.specs.Shortest.{rowVariant, rowStarts, rowSpan}
+use Rattle.answers.specs.Shortest.{rowVariant, rowStarts}
 
 -- Active for some variant: the union over the variants, of document 000.
 pub record ActiveForSome (p : Plan) (t : Term) (starts : List ℕ) : Type 0 where
@@ -52,17 +53,23 @@ pub record ListingOf (s : List ℕ) (n : ℕ) (before after : List ℕ) : Type 0
   pub cells : after ≡ cellsOf rows ++ drop (length (cellsOf rows)) before
   pub listing : Listing plan term rows
 
+-- The makespan of a row, and that it is no greater than another's.
+abbrev pub SpanOf : Plan → Term → List ℕ → ℕ → Type 0
+SpanOf p t row n = Makespan p (variantAt t (rowVariant row)) (startsOf (rowStarts row)) n
+
+abbrev pub NoLonger : Plan → Term → List ℕ → List ℕ → Type 0
+NoLonger p t row other = (m n : ℕ) → SpanOf p t row m → SpanOf p t other n → m ≤ n
+
 -- BEST's row: none of the rows is shorter, and it stands before every other that is as short.
 pub record FirstShortest (p : Plan) (t : Term) (row : List ℕ) : Type 0 where
   pub one-of : IsRow p t row
-  pub least : (other : List ℕ) → IsRow p t other → rowSpan p t row ≤ rowSpan p t other
-  pub first : (other : List ℕ) → IsRow p t other → rowSpan p t other ≡ rowSpan p t row → other ≢ row
-      → StandsBefore t row other
+  pub least : (other : List ℕ) → IsRow p t other → NoLonger p t row other
+  pub first : (other : List ℕ) → IsRow p t other → NoLonger p t other row → other ≢ row → StandsBefore t row other
 
 -- n of the rows are shortest: exactly those than which no row is shorter, each once.
 pub record ShortestRows (p : Plan) (t : Term) (n : ℕ) : Type 0 where
   pub rows : List (List ℕ)
   pub exactly : (row : List ℕ) → List·Memᴰ row rows
-      ↔ (IsRow p t row × ((other : List ℕ) → IsRow p t other → rowSpan p t row ≤ rowSpan p t other))
+      ↔ (IsRow p t row × ((other : List ℕ) → IsRow p t other → NoLonger p t row other))
   pub once : List·Nodup rows
   pub count : length rows ≡ n

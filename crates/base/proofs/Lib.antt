@@ -2,5 +2,6 @@
 pub mod Bools
 pub mod Below
 pub mod Lists
+pub mod Sums
 pub mod Every
 pub mod Order

@@ -1,5 +1,5 @@
 -- Lists made from tests and from numbers, and the cells of rows.
-use Prim.Native.Nat.{ℕ, zero, suc, min}
+use Prim.Native.Nat.{ℕ, zero, suc, _+_, min}
 use mathlib.Core.Bool.{Bool, true, false, cond, _&&_, _||_}
 use mathlib.Core.List.{List, [], _∷_, _++_}
 use lib.Dec.{eqb}
@@ -24,6 +24,11 @@ abbrev pub leastOf : List ℕ → ℕ
 leastOf [] = 0
 leastOf (x ∷ []) = x
 leastOf (x ∷ y ∷ ys) = min x (leastOf (y ∷ ys))
+
+-- The sum of f over a list.
+abbrev pub sumOver : (ℕ → ℕ) → List ℕ → ℕ
+sumOver f [] = 0
+sumOver f (i ∷ is) = f i + sumOver f is
 
 -- The same numbers in the same order.
 abbrev pub sameRow : List ℕ → List ℕ → Bool

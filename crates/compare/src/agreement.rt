@@ -1,4 +1,6 @@
-// Whether the planner's answers on a file are what the enumerator found. `own` has the enumerator's rows.
+// Whether the planner's answers on a file are those of the plain side. `own` has the enumerator's rows.
+use crate::asked::Asked;
+use crate::asked::with_same;
 use crate::rows::Row;
 use crate::rows::first_shortest;
 use crate::rows::hold;
@@ -29,7 +31,7 @@ pub fn is_known(e: Enumerated) -> bool {
     e.known & (e.cells <= CELLS)
 }
 
-fn is_refusal(r: Refusal, number: u64, figure: u64) -> bool {
+pub fn is_refusal(r: Refusal, number: u64, figure: u64) -> bool {
     (plan::number(r) == number) & (plan::figure(r) == figure)
 }
 
@@ -109,7 +111,7 @@ fn cap_agrees(file: &[u8], cap: u32, e: Enumerated, own: &[u32]) -> bool {
     list_agrees(file, cap, CELLS, e, own) & best_agrees(file, cap, e, own)
 }
 
-// All calls, on both sides of the least cap and the least area that give an answer.
+// READ, LIST and BEST, on both sides of the least cap and the least area that give an answer.
 fn agrees(file: &[u8], e: Enumerated, own: &[u32]) -> bool {
     if e.count == 0 {
         return false;
@@ -123,24 +125,45 @@ fn agrees(file: &[u8], e: Enumerated, own: &[u32]) -> bool {
     is_read & is_capped & has_room & list_agrees(file, MOST, e.cells - 1, e, own)
 }
 
-// What the enumerator found, and whether the planner agrees. What could not be compared does not agree.
+// WRITE and CHECK.
+fn asked_of(file: &[u8], e: Enumerated, own: &[u32]) -> Asked {
+    let j = plain::judge(file);
+    let t = crate::written::compared(file, j, crate::asked::none());
+    crate::checked::rows_compared(file, j, e, own, t)
+}
+
+// What the enumerator found, what WRITE and CHECK were asked, and whether the planner agrees. What could not be
+// compared does not agree.
 pub struct Comparison {
     pub known: bool,
     pub same: bool,
     pub count: u32,
     pub shortest: u32,
     pub makespan: u32,
+    pub asked: Asked,
 }
 
 pub fn compared(file: &[u8]) -> Comparison {
     let mut own = [0u32; CELLS];
     let e = enumerator::enumerate(file, &mut own);
     let known = is_known(e);
+    let asked = if known {
+        asked_of(file, e, &own)
+    } else {
+        crate::asked::none()
+    };
     Comparison {
         known,
-        same: known && agrees(file, e, &own),
+        same: known && (asked.same & agrees(file, e, &own)),
         count: e.count,
         shortest: e.shortest,
         makespan: e.makespan,
+        asked,
     }
+}
+
+// READ, WRITE and CHECK on a file that may be refused, as `plain` judges it.
+pub fn file_compared(file: &[u8], j: Judged) -> Asked {
+    let t = with_same(crate::asked::none(), read_agrees(file, j));
+    crate::checked::file_compared(file, j, crate::written::compared(file, j, t))
 }

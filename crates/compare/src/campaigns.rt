@@ -1,11 +1,12 @@
-// The campaigns whose sessions are few enough to try them all, and those that READ settles. The figures are the
-// enumerator's.
+// The campaigns whose sessions are few enough to try them all, and those that are settled without. The figures are
+// those of the plain side.
 use crate::agreement::CELLS;
 use crate::agreement::MOST;
 use crate::agreement::compared;
+use crate::agreement::file_compared;
 use crate::agreement::is_known;
 use crate::agreement::list_agrees;
-use crate::agreement::read_agrees;
+use crate::asked::Asked;
 
 // What could not be compared does not agree.
 fn put_agree(name: &[u8], is_known: bool, is_same: bool) {
@@ -31,16 +32,25 @@ fn put_refusal(number: u64, figure: u64) {
     console::put(b"\n");
 }
 
-// READ alone.
-fn put_read(name: &[u8], file: &[u8]) {
+// How many variants were written out, and how many timetables are sessions and how many are not.
+fn put_asked(t: Asked) {
+    put_figure(b" written=", t.variants);
+    put_figure(b" yes=", t.yes);
+    put_figure(b" no=", t.no);
+    console::put(b"\n");
+}
+
+// READ, WRITE and CHECK.
+fn put_file(name: &[u8], file: &[u8]) {
     let j = plain::judge(file);
-    put_agree(name, j.known, read_agrees(file, j));
+    let t = file_compared(file, j);
+    put_agree(name, j.known, t.same);
     if j.number != 0 {
         put_refusal(j.number, j.figure);
         return;
     }
     put_figure(b" variants=", j.variants as u64);
-    console::put(b"\n");
+    put_asked(t);
 }
 
 // LIST in an area of so many cells.
@@ -63,7 +73,8 @@ fn put_all_calls(name: &[u8], file: &[u8]) {
     put_figure(b" count=", c.count as u64);
     put_figure(b" shortest=", c.shortest as u64);
     put_figure(b" makespan=", c.makespan as u64);
-    console::put(b"\n");
+    let t = c.asked;
+    put_asked(t);
 }
 
 fn put_dot_test(file: &[u8]) {
@@ -102,8 +113,8 @@ fn put_units() {
 }
 
 fn put_variants() {
-    put_read(b"twelve_choices", &samples::twelve_choices());
-    put_read(
+    put_file(b"twelve_choices", &samples::twelve_choices());
+    put_file(
         b"twelve_choices_and_one",
         &samples::twelve_choices_and_one(),
     );
@@ -122,16 +133,16 @@ fn begin(file: &mut [u8], text: &[u8]) {
     }
 }
 
-// READ of the first bytes of an area, which is not shorter.
+// The first bytes of an area, which is not shorter.
 fn put_first(name: &[u8], area: &[u8], bytes: usize) {
     if bytes <= area.len() {
-        put_read(name, &area[..bytes]);
+        put_file(name, &area[..bytes]);
     }
 }
 
 // The longest file of each edition, and with newlines behind it.
 fn put_lengths() {
-    put_read(b"empty_file", b"");
+    put_file(b"empty_file", b"");
     let mut file = [b'\n'; 2176];
     begin(&mut file, &samples::longest_edition_1());
     put_first(b"edition_1_of_983_bytes", &file, 983);
@@ -144,21 +155,21 @@ fn put_lengths() {
 }
 
 fn put_faults() {
-    put_read(b"twice_under_p", &samples::twice_under_p());
-    put_read(b"leading_zero", &samples::leading_zero());
-    put_read(b"duration_20001", &samples::duration_20001());
-    put_read(b"group_of_one", &samples::group_of_one());
+    put_file(b"twice_under_p", &samples::twice_under_p());
+    put_file(b"leading_zero", &samples::leading_zero());
+    put_file(b"duration_20001", &samples::duration_20001());
+    put_file(b"group_of_one", &samples::group_of_one());
 }
 
 fn put_unit_faults() {
-    put_read(b"units_over_capacity", &samples::units_over_capacity());
-    put_read(b"units_16", &samples::units_16());
-    put_read(b"units_over_and_16", &samples::units_over_and_16());
-    put_read(b"capacity_16", &samples::capacity_16());
-    put_read(b"capacity_absent", &samples::capacity_absent());
-    put_read(b"count_absent", &samples::count_absent());
-    put_read(b"count_too_many", &samples::count_too_many());
-    put_read(b"edition_3", &samples::edition_3());
+    put_file(b"units_over_capacity", &samples::units_over_capacity());
+    put_file(b"units_16", &samples::units_16());
+    put_file(b"units_over_and_16", &samples::units_over_and_16());
+    put_file(b"capacity_16", &samples::capacity_16());
+    put_file(b"capacity_absent", &samples::capacity_absent());
+    put_file(b"count_absent", &samples::count_absent());
+    put_file(b"count_too_many", &samples::count_too_many());
+    put_file(b"edition_3", &samples::edition_3());
 }
 
 pub fn put_all() {

@@ -1,4 +1,5 @@
-// READ on generated plans with a fault put in.
+// READ, WRITE and CHECK on generated plans with a fault put in.
+use crate::asked::Asked;
 
 // The files made of each plan, and of all.
 const FAULTS: u64 = 32;
@@ -24,10 +25,12 @@ fn number_at(place: usize) -> u64 {
     }
 }
 
-// How many files the enumerator could judge, on how many of them the two agree, and how many have each number.
+// How many files the plain side could judge, on how many of them the two agree, what WRITE and CHECK were asked, and
+// how many files have each number.
 struct Totals {
     known: u64,
     agree: u64,
+    asked: Asked,
     files: [u64; NUMBERS],
 }
 
@@ -46,16 +49,19 @@ fn with_seed(t: Totals, seed: u64) -> Totals {
     let n = generator::generate(seed / FAULTS, &mut file);
     let m = generator::damage(seed, &mut file, n);
     let j = plain::judge(&file[..m]);
-    let is_same = j.known && crate::agreement::read_agrees(&file[..m], j);
+    let own = crate::agreement::file_compared(&file[..m], j);
+    let is_same = j.known & own.same;
     if !j.known {
         console::put_line(b"fault_not_compared=", seed);
     } else if !is_same {
         console::put_line(b"fault_differs=", seed);
     }
     let files = t.files;
+    let before = t.asked;
     Totals {
         known: crate::with_test(t.known, j.known),
         agree: crate::with_test(t.agree, is_same),
+        asked: crate::asked::joined(before, own),
         files: counted(files, j.number),
     }
 }
@@ -64,6 +70,7 @@ fn over_seeds() -> Totals {
     let mut t = Totals {
         known: 0,
         agree: 0,
+        asked: crate::asked::none(),
         files: [0; NUMBERS],
     };
     for seed in 0..FILES {
@@ -95,5 +102,7 @@ pub fn put_all() {
     console::put_line(b"faults=", FILES);
     console::put_line(b"known=", t.known);
     console::put_line(b"agree=", t.agree);
+    let asked = t.asked;
+    crate::asked::put(asked);
     put_numbers(files);
 }

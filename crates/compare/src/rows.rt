@@ -4,12 +4,12 @@ use enumerator::ABSENT;
 use enumerator::Enumerated;
 use plain::ACTS;
 
-fn cell(area: &[u32], at: usize) -> u32 {
+pub fn cell(area: &[u32], at: usize) -> u32 {
     if at < area.len() { area[at] } else { 0 }
 }
 
 // The place so many cells on.
-fn on(at: usize, cells: usize) -> usize {
+pub fn on(at: usize, cells: usize) -> usize {
     std::num::wrapping_add_usize(at, cells)
 }
 
@@ -49,7 +49,7 @@ fn start(area: &[u32], at: usize, acts: usize, i: usize) -> u32 {
 }
 
 // The starts from a place on.
-fn starts_at(area: &[u32], at: usize, acts: usize) -> [u32; ACTS] {
+pub fn starts_at(area: &[u32], at: usize, acts: usize) -> [u32; ACTS] {
     let mut starts = [ABSENT; ACTS];
     for i in 0..ACTS {
         starts[i] = start(area, at, acts, i);

@@ -1,5 +1,5 @@
-// A plain enumerator of the active sessions of a plan file, by the definitions alone. It shares no code with the
-// planner.
+// A plain enumerator of the active sessions of a plan file, and a plain test of a timetable, by the definitions alone.
+// It shares no code with the planner.
 mod lower;
 mod placing;
 mod rows;
@@ -11,6 +11,8 @@ use placing::Search;
 use plain::ACTS;
 use plain::Picks;
 use plain::Plan;
+use plain::Variant;
+pub use rules::RULES;
 
 // The start of an activity that is absent.
 pub const ABSENT: u32 = 4294967295;
@@ -90,4 +92,20 @@ pub fn makespan(file: &[u8], starts: &[u32; ACTS]) -> u32 {
     let p = plain::read(file);
     let duration = p.duration;
     session::makespan(session::spanned(&duration, starts))
+}
+
+// The rules of a variant of a plan.
+pub fn rules_of(p: Plan, v: Variant) -> [u32; RULES] {
+    rules::rules(p, v)
+}
+
+// Is a timetable a feasible session of a variant with these rules, of a plan of so many activities?
+pub fn is_session<'a>(
+    rules: &'a [u32; RULES],
+    v: Variant,
+    starts: &'a [u32; ACTS],
+    acts: usize,
+) -> bool {
+    let duration = v.duration;
+    lower::has_activities(v, starts) && session::feasible(rules, &duration, starts, acts)
 }

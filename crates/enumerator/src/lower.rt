@@ -10,7 +10,7 @@ use plain::Plan;
 use plain::Variant;
 
 // Has a variant just the activities that have a start?
-fn has_activities(v: Variant, starts: &[u32; ACTS]) -> bool {
+pub fn has_activities(v: Variant, starts: &[u32; ACTS]) -> bool {
     for i in 0..ACTS {
         if (v.node[i] == NONE) != (starts[i] == ABSENT) {
             return false;

@@ -11,8 +11,13 @@ use crate::unit::multiples;
 use plain::ACTS;
 use plain::RESOURCES;
 
-fn end(start: u32, duration: u32) -> u32 {
-    std::num::wrapping_add_u32(start, duration)
+fn wide(n: u32) -> u64 {
+    n as u64
+}
+
+// An end may be past what a start can be.
+fn end(start: u32, duration: u32) -> u64 {
+    std::num::wrapping_add_u64(wide(start), wide(duration))
 }
 
 // May activity i start at a tick where it precedes activity j as it stands, or is preceded by it?
@@ -35,8 +40,8 @@ fn in_order<'a>(
         return true;
     }
     let r = relation(rules, i, j);
-    ((r != BEFORE) | (end(tick, duration[i]) <= start))
-        & ((r != AFTER) | (end(start, duration[j]) <= tick))
+    ((r != BEFORE) | (end(tick, duration[i]) <= wide(start)))
+        & ((r != AFTER) | (end(start, duration[j]) <= wide(tick)))
 }
 
 // May activity i start at a tick by precedence, the others of the first n as they stand?
@@ -62,7 +67,7 @@ fn runs<'a>(duration: &'a [u32; ACTS], starts: &'a [u32; ACTS], j: usize, tick: 
         return false;
     }
     let start = starts[j];
-    (start != ABSENT) & (start <= tick) & (tick < end(start, duration[j]))
+    (start != ABSENT) & (start <= tick) & (wide(tick) < end(start, duration[j]))
 }
 
 // The units of a resource that are held on a tick, by the others than activity i of the first n.
@@ -124,7 +129,7 @@ fn is_inside(duration: &[u32; ACTS], start: u32, i: usize, tick: u32) -> bool {
     if ACTS <= i {
         return false;
     }
-    (start != ABSENT) & (tick < start) & (start < end(tick, duration[i]))
+    (start != ABSENT) & (tick < start) & (wide(start) < end(tick, duration[i]))
 }
 
 // Is there room for activity i from a tick to its end? On no tick but those on which another one starts are more units
@@ -224,7 +229,7 @@ fn widened(s: Span, start: u32, duration: u32) -> Span {
         return s;
     }
     let mut r = s;
-    let last = end(start, duration);
+    let last = std::num::wrapping_add_u32(start, duration);
     r.ticks = std::num::wrapping_add_u32(s.ticks, start);
     if start < s.first {
         r.first = start;

@@ -22,7 +22,7 @@ use Rattle.format.proofs.Readers.{stopped, then-read, both-read}
 use Rattle.format.proofs.Plans.{Sound, plan-sound, sound-plan}
 use Rattle.format.proofs.PlanLines.{edition-line, resources-line, capacity-lines, acts-line, isHeld, act-lines}
 use Rattle.format.proofs.PlanLines.{nodes-line, node-lines}
-use Rattle.format.proofs.Short.{text-short, text-some}
+use Rattle.format.proofs.Short.{longest-any, text-short, text-some}
 
 -- The lines of a plan's text are read as that plan.
 lines-of-text : (p : Plan) → Sound p → (line : ℕ) × (planLines 1 (text p) ≡ read p line [])
@@ -118,7 +118,7 @@ text-parses p ok =
     let fits : isTooLong (text p) ≡ false =
     rw (
       ne-eqb (length (text p)) 0 (λ e. omega (arith, text-some p ok)),
-      le-ltb longest (length (text p)) (text-short p ok),
+      le-ltb longest (length (text p)) (omega (arith, text-short p ok, longest-any (p .edition))),
     ) in
     elim-false _ _ _ fits ∙ ap verdict (lines-of-text p (plan-sound p ok) .1)
 

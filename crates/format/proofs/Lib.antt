@@ -10,4 +10,5 @@ pub mod PlanLines
 pub mod Tables
 pub mod Short
 pub mod Format
+pub mod Early
 pub mod Longest

@@ -20,7 +20,7 @@ stopped e = let z : _≡_ {A = ℕ} 0 1 = cc in omega arith
 
 -- One reader, then another.
 module _ {A B : Type 0} (next : A → Reader B) where
-  abbrev onward : LinesRead A → LinesRead B
+  abbrev pub onward : LinesRead A → LinesRead B
   onward o = elim o [ read a line s ↦ next a line s | stop r ↦ stop r ]
 
   pub then-read : {o : LinesRead A} {a : A} {line : ℕ} {s : List ℕ} → o ≡ read a line s → onward o ≡ next a line s
@@ -39,7 +39,7 @@ pub record Exact {A : Type 0} (reader : Reader A) (write : A → List ℕ) (Ok :
 
 -- A test of what was read.
 module _ {A : Type 0} (passes : A → Bool) (refusal : ℕ → Refusal) (line : ℕ) where
-  abbrev judged : LinesRead A → LinesRead A
+  abbrev pub judged : LinesRead A → LinesRead A
   judged o =
       elim o [
         | read a line′ s′ ↦ choose (passes a) (read a line′ s′) (stop (refusal line))

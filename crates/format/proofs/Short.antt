@@ -1,20 +1,21 @@
--- The text of a plan is no longer than `longest`: a line is longest where its values are greatest.
+-- The text of a plan is no longer than its edition's limit: a line is longest where its values are greatest.
 use Prim.Native.Nat.{ℕ, zero, suc, _+_, _*_, _/_, _≤_, suc-le-suc}
-use mathlib.Core.Bool.{Bool, true}
+use mathlib.Core.Bool.{Bool, true, cond}
 use mathlib.Core.List.{List, [], _∷_}
-use mathlib.Core.Path.{_≡_, refl}
-use native.Mathlib.Nat.{suc-mul}
+use mathlib.Core.Path.{_≡_, refl, sym, subst}
+use native.Mathlib.Nat.{suc-mul, mul-le-mul-right}
 use native.Mathlib.Omega.{arith}
 use borrow.Author.Tests.{leb-true}
 use lib.ListN.{length, getD, drop, length-append}
-use Rattle.plan.specs.Limits.{bytes, between, longest, lastEdition, saysUnits, mostUnits, mostDigits, mostResources}
-use Rattle.plan.specs.Limits.{mostActs, longestDuration, mostNodes, mostChildren, isCapacity, isUnitCount, editionForm}
-use Rattle.plan.specs.Limits.{resourcesForm, capacityForm, actsForm, countsForm, nodesForm, nodeForm}
+use Rattle.plan.specs.Limits.{bytes, between, longestOf, longest, lastEdition, saysUnits, mostUnits, mostDigits}
+use Rattle.plan.specs.Limits.{mostResources, mostActs, longestDuration, mostNodes, mostChildren, isCapacity}
+use Rattle.plan.specs.Limits.{isUnitCount, editionForm, resourcesForm, capacityForm, actsForm, countsForm, nodesForm}
+use Rattle.plan.specs.Limits.{nodeForm}
 use Rattle.plan.specs.Plan.{Activity, Node, Plan, ownResource, letterOf, valueOf, isActivity, isNode, isPlan}
 use Rattle.base.specs.Lists.{every}
 use Rattle.format.specs.Lines.{numeral, filled}
 use Rattle.format.specs.Text.{text}
-use Rattle.base.proofs.Bools.{by-bool, and-left, and-right}
+use Rattle.base.proofs.Bools.{by-bool, and-left, and-right, cond-true}
 use Rattle.format.proofs.Tests.{between-facts}
 use Rattle.format.proofs.Laws.{Kind, value, letter, literal, kind, filled-value, filled-letter, filled-literal}
 use Rattle.format.proofs.Values.{by-size, written-one, written-more, written-some}
@@ -72,12 +73,12 @@ unfolding filled
 filled-longer [] vs ws h = omega arith
 filled-longer (b ∷ form) vs ws h = longer (kind b) form (filled-longer form) vs ws h
 
--- The bytes of the longest line of a capacity, an activity and a node.
-abbrev capacityWidth : ℕ
-capacityWidth = 7
+-- The bytes of the longest line of a capacity, which the first edition has not, of an activity and of a node.
+abbrev capacityWidth : ℕ → ℕ
+capacityWidth edition = cond (saysUnits edition) 7 0
 
-abbrev actWidth : ℕ
-actWidth = 58
+abbrev actWidth : ℕ → ℕ
+actWidth edition = cond (saysUnits edition) 58 13
 
 abbrev nodeWidth : ℕ
 nodeWidth = 10
@@ -86,7 +87,7 @@ nodeWidth = 10
 record Widths : Type 0 where
   edition : length (filled editionForm (lastEdition ∷ [])) ≡ 7
   resources : length (filled resourcesForm (mostResources ∷ [])) ≡ 7
-  capacity : length (filled capacityForm (mostUnits 2 ∷ [])) ≡ capacityWidth
+  capacity : length (filled capacityForm (mostUnits 2 ∷ [])) ≡ 7
   acts : length (filled actsForm (mostActs ∷ [])) ≡ 8
   act : length (filled (bytes "act=#,#\n") (mostResources ∷ longestDuration ∷ [])) ≡ 13
   duration : length (numeral mostDigits longestDuration) ≡ 5
@@ -113,7 +114,7 @@ number-short : (form : List ℕ) (high n : ℕ) → between 1 high n ≡ true
     → length (filled form (n ∷ [])) ≤ length (filled form (high ∷ []))
 number-short form high n e = filled-longer form (n ∷ []) (high ∷ []) (between-facts 1 high n e .1, tt)
 
-capacity-short : (edition b : ℕ) → isCapacity edition b ≡ true → length (capacityLine b) ≤ capacityWidth
+capacity-short : (edition b : ℕ) → isCapacity edition b ≡ true → length (capacityLine b) ≤ 7
 capacity-short edition b e =
     let fits : b ≤ mostUnits 2 = omega (arith, between-facts 1 (mostUnits edition) b e, most-units edition) in
     omega (arith, widths .capacity, filled-longer capacityForm (b ∷ []) (mostUnits 2 ∷ []) (fits, tt))
@@ -143,7 +144,7 @@ counts-short edition (suc n) us e =
     ))
 
 module _ (edition r : ℕ) (h : r ≤ mostResources) (a : Activity) (e : isActivity edition r a ≡ true) where
-  act-short : length (actLine edition r a) ≤ actWidth
+  act-short : length (actLine edition r a) ≤ actWidth edition
   unfolding filled
   act-short =
       by-bool (saysUnits edition)
@@ -187,15 +188,24 @@ module _ {A : Type 0} {write : A → List ℕ} {writes : List A → List ℕ} (j
         (omega (arith, fits x (and-left (ok x) (every ok xs) e), lines-short xs (and-right (ok x) (every ok xs) e))))
 
 capacities-short : (edition : ℕ) (bs : List ℕ) → every (isCapacity edition) bs ≡ true
-    → length (capacityText edition bs) ≤ length bs * capacityWidth
+    → length (capacityText edition bs) ≤ length bs * capacityWidth edition
 capacities-short edition bs e =
     by-bool (saysUnits edition)
     (λ y.
-    lines-short (capacity-joined edition y) (isCapacity edition) capacityWidth (capacity-short edition) bs e)
+    subst (λ (k : ℕ). length (capacityText edition bs) ≤ length bs * k) (sym (cond-true 7 0 y))
+    (lines-short (capacity-joined edition y) (isCapacity edition) 7 (capacity-short edition) bs e))
     (λ n. rw n (omega arith))
 
+-- With as many lines as there can be: 671 bytes are those of the edition, the counts and the nodes.
+widths-add : (edition : ℕ)
+    → 671 + mostResources * capacityWidth edition + mostActs * actWidth edition ≡ longestOf edition
+widths-add edition = by-bool (saysUnits edition) (λ y. rw y) (λ n. rw n)
+
+pub longest-any : (edition : ℕ) → longestOf edition ≤ longest
+longest-any edition = by-bool (saysUnits edition) (λ y. rw y (omega arith)) (λ n. rw n (omega arith))
+
 module _ (p : Plan) (ok : isPlan p ≡ true) where
-  pub text-short : length (text p) ≤ longest
+  pub text-short : length (text p) ≤ longestOf (p .edition)
   unfolding text
   text-short =
       let sound : Sound p = plan-sound p ok in
@@ -212,13 +222,16 @@ module _ (p : Plan) (ok : isPlan p ≡ true) where
         capacities-short (p .edition) (p .capacities) (sound .capacities),
         number-short actsForm mostActs (length (p .activities)) (sound .acts),
         lines-short (act-joined (p .edition) (length (p .capacities)))
-            (isActivity (p .edition) (length (p .capacities))) actWidth
+            (isActivity (p .edition) (length (p .capacities))) (actWidth (p .edition))
             (act-short (p .edition) (length (p .capacities)) resources)
             (p .activities) (sound .activities),
         number-short nodesForm mostNodes (length (p .nodes)) (sound .nodeCount),
         between-facts 1 mostNodes (length (p .nodes)) (sound .nodeCount),
         lines-short node-joined (isNode (length (p .activities))) nodeWidth (node-short (length (p .activities)) acts)
             (p .nodes) (sound .nodes),
+        mul-le-mul-right (capacityWidth (p .edition)) resources,
+        mul-le-mul-right (actWidth (p .edition)) acts,
+        widths-add (p .edition),
       ))
 
   pub text-some : 1 ≤ length (text p)

@@ -1,4 +1,5 @@
-// A fault in a plan file: a byte changed, dropped, inserted or appended, or the file cut short.
+// A fault in a plan file: a byte changed, dropped, inserted or appended, the file cut short, or a term of very many
+// variants.
 ghost use Rattle.generator.specs.Text.{Counts};
 use crate::random::below;
 use crate::random::drawn;
@@ -76,6 +77,10 @@ fn faulted(seed: u64, file: &mut [u8], n: usize) -> usize {
     let first = drawn(drawn(seeded(seed)));
     let second = drawn(first);
     let third = drawn(second);
+    let fourth = drawn(third);
+    if below(fourth, 64) == 0 {
+        return crate::choices::multiply(fourth, file, n);
+    }
     let kind = below(first, 7);
     let at = place(second, n);
     if kind < 3 {

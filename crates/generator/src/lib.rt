@@ -3,6 +3,7 @@
 ghost use Prim.Native.Nat.{_≤_};
 ghost use Rattle.generator.specs.Text.{Counts};
 
+mod choices;
 mod fault;
 mod random;
 mod text;

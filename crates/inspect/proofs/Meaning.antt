@@ -12,10 +12,9 @@ use Rattle.plan.specs.declared.Refusal.{Refusal}
 use Rattle.term.specs.Term.{Term}
 use Rattle.term.specs.Variants.{variantCount}
 use Rattle.variant.specs.Project.{variantAt}
-use Rattle.variant.proofs.RoundTrip.{variant-below}
 use Rattle.variant.specs.Timetable.{isSession}
 use Rattle.variant.specs.Words.{Session}
-use Rattle.variant.proofs.Words.{session-means}
+use Rattle.variant.proofs.Words.{variant-inside, session-means}
 use Rattle.judge.specs.Judge.{Verdict, judge, accepts, refuses}
 use Rattle.judge.proofs.Accepts.{accepted-valid}
 use Rattle.inspect.specs.Answer.{checkOf, checkBy, checkVariant}
@@ -35,7 +34,7 @@ module _ (s : List ℕ) (v : ℕ) (row : List ℕ) (p : Plan) (t : Term) (e : ju
   test-means : (isSession p (variantAt t v) row ≡ true) ↔ Session p (variantAt t v) row
   test-means =
       let valid = accepted-valid s p t e .0 in
-      let inside = variant-below p t v (record { valid = valid; below = h }) in
+      let inside = variant-inside p t v (record { valid = valid; below = h }) in
       session-means p (variantAt t v) inside row
 
   pub check-means : (checkOf s v row ≡ Checked true) ↔ Session p (variantAt t v) row

@@ -1,5 +1,5 @@
 -- The definition is the format: the text of every valid plan is accepted as that plan, and what is accepted is the
--- text of a valid plan. No accepted file is longer than `longest`, and one is as long.
+-- text of a valid plan. No accepted file is longer than its edition's limit, and one is as long.
 use Prim.Native.Nat.{ℕ, zero, suc, _-_, _≤_}
 use native.Mathlib.Omega.{arith}
 use mathlib.Core.Bool.{Bool, true, false}
@@ -9,14 +9,14 @@ use mathlib.Core.Path.{_≡_, refl, sym, ap, _∙_, subst}
 use borrow.Author.Tests.{ltb-false, le-ltb}
 use lib.Dec.{ltb}
 use lib.ListN.{length}
-use Rattle.plan.specs.Limits.{longest, mostVariants, mostActs, mostChildren}
+use Rattle.plan.specs.Limits.{longestOf, longest, mostVariants, mostActs, mostChildren, isEdition}
 use Rattle.plan.specs.Plan.{Plan, isPlan}
 use Rattle.plan.specs.declared.Refusal.{Refusal}
 use Rattle.format.specs.Parse
 use Rattle.format.specs.Parse.{parse, Result}
 use Rattle.format.specs.Text.{text}
 use Rattle.format.proofs.Format.{text-parses, parse-text}
-use Rattle.format.proofs.Short.{text-short}
+use Rattle.format.proofs.Short.{longest-any, text-short}
 use Rattle.format.proofs.Longest.{longestPlan, longest-is-plan, longest-length}
 use Rattle.term.specs.Term.{Term, Forest, act, xor, nil, cons, termOf, forest, place, size, firsts, others}
 use Rattle.term.specs.Variants.{variantCount, twice, variants, some-of, repeats, activities, member}
@@ -74,19 +74,25 @@ pub accepted-valid : (s : List ℕ) (p : Plan) (t : Term) → judge s ≡ accept
 unfolding judge
 accepted-valid s p t e = result-valid s p t (parse s) refl e
 
-pub accepted-short : (s : List ℕ) (p : Plan) (t : Term) → judge s ≡ accepts p t → length s ≤ longest
+pub accepted-short : (s : List ℕ) (p : Plan) (t : Term) → judge s ≡ accepts p t
+    → (length s ≤ longestOf (p .edition)) × (length s ≤ longest)
 accepted-short s p t e =
     let v = accepted-valid s p t e in
-    subst (λ (x : List ℕ). length x ≤ longest) (sym (v .1)) (text-short p (v .0 .ranges))
+    let short : length s ≤ longestOf (p .edition) =
+    subst (λ (x : List ℕ). length x ≤ longestOf (p .edition)) (sym (v .1)) (text-short p (v .0 .ranges)) in
+    (short, omega (arith, longest-any (p .edition)))
 
--- The longest plan is an x over one activity, as many times as a group may have children.
+-- The longest plan of an edition is an x over one activity, as many times as a group may have children.
 abbrev pub longestTerm : Term
 longestTerm = xor (many mostChildren (act (mostActs - 1)))
 
-longest-valid : Valid longestPlan longestTerm
+longest-valid : (edition : ℕ) → isEdition edition ≡ true → Valid (longestPlan edition) longestTerm
 unfolding termOf forest place size firsts others twice variants some-of repeats activities member variantCount
-longest-valid = record { ranges = longest-is-plan; term = refl; once = refl; few = omega arith }
+longest-valid edition e =
+    record { ranges = longest-is-plan edition e; term = refl; once = refl; few = omega arith }
 
-pub longest-accepted : (judge (text longestPlan) ≡ accepts longestPlan longestTerm)
-    × (length (text longestPlan) ≡ longest)
-longest-accepted = (valid-accepted longestPlan longestTerm longest-valid, longest-length)
+pub longest-accepted : (edition : ℕ) → isEdition edition ≡ true
+    → (judge (text (longestPlan edition)) ≡ accepts (longestPlan edition) longestTerm)
+    × (length (text (longestPlan edition)) ≡ longestOf edition)
+longest-accepted edition e =
+    (valid-accepted (longestPlan edition) longestTerm (longest-valid edition e), longest-length edition e)

@@ -14,10 +14,6 @@ bytes (String._∷_ c s) = code c ∷ bytes s
 abbrev pub between : ℕ → ℕ → ℕ → Bool
 between low high n = leb low n && leb n high
 
--- No accepted file is longer, of any edition.
-abbrev pub longest : ℕ
-longest = 2175
-
 -- The editions are numbered from 1 on.
 abbrev pub lastEdition : ℕ
 lastEdition = 2
@@ -26,6 +22,14 @@ lastEdition = 2
 -- first, a resource has one unit, and an activity holds that of its own resource alone.
 abbrev pub saysUnits : ℕ → Bool
 saysUnits edition = leb 2 edition
+
+-- No accepted file of the edition is longer.
+abbrev pub longestOf : ℕ → ℕ
+longestOf edition = cond (saysUnits edition) 2175 983
+
+-- Nor one of any edition: refusal 1 goes by this.
+abbrev pub longest : ℕ
+longest = longestOf lastEdition
 
 -- The units of one resource.
 abbrev pub mostUnits : ℕ → ℕ

@@ -8,7 +8,7 @@ use mathlib.Core.Bool.{Bool, true, false, not}
 use mathlib.Core.HLevel.{¬-prop}
 use mathlib.Core.List.{List, _∷_, _++_, map, List·Mem, List·Memᴰ, Memᴰ·map, Memᴰ·of-map, Memᴰ·cast, List-discrete}
 use mathlib.Core.List.{Pairwise·imp, Pairwise·imp-of-mem, Pairwise·map′}
-use mathlib.Core.Logic.{_≢_, by-cases, inl, inr}
+use mathlib.Core.Logic.{_↔_, _≢_, by-cases, inl, inr}
 use mathlib.Core.Path.{_≡_, refl, sym, ap, ap₂, subst, _∙_}
 use lib.Dec.{leb}
 use lib.ListN.{length, drop}
@@ -18,6 +18,7 @@ use Rattle.plan.specs.Plan.{Plan}
 use Rattle.plan.specs.declared.Refusal.{Refusal}
 use Rattle.term.specs.Term.{Term}
 use Rattle.term.specs.Variants.{variantCount, activities, member}
+use Rattle.term.proofs.Twice.{member-found}
 use Rattle.timetable.specs.Mark.{mark}
 use Rattle.base.specs.Lists.{isOneOf, leastOf, cellsOf}
 use Rattle.base.specs.Order.{isBefore, Before}
@@ -26,25 +27,25 @@ use Rattle.base.proofs.Bools.{by-bool, true-not-false}
 use Rattle.base.proofs.Lists.{keep-is, keep-mem, keep-pairwise, one-of-is, one-of, mem-found, cells-length, least-below}
 use Rattle.base.proofs.Order.{same-first, other-first, not-self, differ-before, Smaller, before-smaller}
 use Rattle.schedule.specs.Project.{Project}
-use Rattle.schedule.specs.Schedule.{moved}
+use Rattle.schedule.specs.Schedule.{Starts}
 use Rattle.schedule.specs.Sessions.{startsOf}
-use Rattle.schedule.proofs.Reflect.{Active, feasible-is, feasible-of}
+use Rattle.schedule.proofs.Bounds.{starts-below-horizon}
 use Rattle.schedule.proofs.Box as box
 use Rattle.variant.specs.Project.{variantAt, projectOf}
 use Rattle.term.specs.Valid.{HasVariant, Valid}
-use Rattle.variant.proofs.RoundTrip.{variant-below}
-use Rattle.variant.proofs.Instance.{sound, has-of, has-member}
+use Rattle.variant.proofs.Instance.{sound}
 use Rattle.variant.specs.Pairs.{sessionsOf, isNew, pairs, pairCount}
-use Rattle.variant.specs.Words.{Present, ActiveSession, Sooner}
-use Rattle.variant.proofs.Words.{keeps-is, keeps-of}
+use Rattle.variant.specs.Words.{Present, Makespan, IsActive, ActiveSession, Sooner}
+use Rattle.variant.proofs.Words.{absent, variant-inside, variant-some, has, makespan-means, active-words, words-active}
 use Rattle.judge.specs.Judge.{Verdict, judge, accepts, refuses}
 use Rattle.judge.proofs.Accepts.{accepted-valid}
 use Rattle.answers.specs.Listed.{cellsNeeded, listWithin, listBy, listOf}
-use Rattle.answers.specs.Shortest.{rowStarts, rowSpan, shortestPairs, shortestCount, firstShortest}
-use Rattle.answers.specs.Words.{ActiveForSome, IsRow, StandsBefore, Listing, ListingOf, FirstShortest, ShortestRows}
+use Rattle.answers.specs.Shortest.{makespanIn, rowStarts, rowSpan, shortestPairs, shortestCount, firstShortest}
+use Rattle.answers.specs.Words.{ActiveForSome, IsRow, StandsBefore, Listing, ListingOf, SpanOf, NoLonger}
+use Rattle.answers.specs.Words.{FirstShortest, ShortestRows}
 use Rattle.answers.specs.declared.ListAnswer.{ListAnswer}
 use Rattle.answers.specs.declared.ListAnswer.the-variants.{Listed, Refused}
-use Rattle.plan_exact.proofs.Variant.{chosen}
+use Rattle.plan_exact.proofs.Variant.{chosen, box-unmarked}
 use Rattle.plan_exact.proofs.Union.{session-marks, Lowest, lowest}
 use Rattle.plan_exact.proofs.Pairs.{Pair, row-pair, pair-mem}
 use Rattle.plan_exact.proofs.Rows.{pairs-ordered}
@@ -59,41 +60,46 @@ module _ (p : Plan) (t : Term) (v : ℕ) (c : HasVariant p t v) (row : List ℕ)
   P = projectOf p w
 
   inside : (i : ℕ) → Present w i → i < length (p .activities)
-  inside = variant-below p t v c
+  inside = variant-inside p t v c
 
   session-words : List·Memᴰ row (sessionsOf p t v) → ActiveSession p w row
-  unfolding projectOf
   session-words m =
       let s = box.session-is P mark row m in
       record {
-        long = s .long;
+        long = unfold projectOf in s .long;
         marks = session-marks p t v c row m;
-        keeps =
-            keeps-is p w inside (startsOf row)
-            (feasible-of P (startsOf row) (s .is-active .is-feasible));
-        least =
-            λ j t present l kept.
-            s .is-active .least j (has-of p w j (inside j present) present) refl t l
-            (feasible-is P (moved (startsOf row) j t)
-            (keeps-of p w inside (moved (startsOf row) j t) kept));
-      }
-
-  is-active : ActiveSession p w row → Active P (startsOf row)
-  is-active a =
-      record {
-        is-feasible = feasible-is P (startsOf row) (keeps-of p w inside (startsOf row) (a .keeps));
-        least =
-            λ j h free t l f.
-            a .least j t (has-member p w j h) l
-            (keeps-is p w inside (moved (startsOf row) j t)
-            (feasible-of P (moved (startsOf row) j t) f));
+        active = active-words p w inside (startsOf row) (s .is-active);
       }
 
   session-listed : ActiveSession p w row → List·Memᴰ row (sessionsOf p t v)
   unfolding projectOf
   session-listed a =
       box.session-mem P mark row (sound p (c .valid .ranges) w)
-      (record { long = a .long; marked = λ i l z. a .marks i l .1 z; is-active = is-active a })
+      (record {
+        long = a .long;
+        marked = λ i l z. a .marks i l .1 (absent w i .0 z);
+        is-active = words-active p w inside (startsOf row) (a .active);
+      })
+
+-- The makespan in words.
+pub makespan-words : (p : Plan) (t : Term) (v : ℕ) → HasVariant p t v → (S : Starts) (n : ℕ)
+    → (n ≡ makespanIn p t v S) ↔ Makespan p (variantAt t v) S n
+makespan-words p t v c S n =
+    let (i, there) = variant-some p t v c in
+    makespan-means p (variantAt t v) (variant-inside p t v c) S i there n
+
+-- No start of an active schedule is as late as the mark.
+pub active-unmarked : (p : Plan) (t : Term) (v : ℕ) → HasVariant p t v → (S : Starts) → IsActive p (variantAt t v) S
+    → (i : ℕ) → Present (variantAt t v) i → S i < mark
+active-unmarked p t v c S a i there =
+    let w : Term = variantAt t v in
+    let inside = variant-inside p t v c in
+    omega (
+      arith,
+      starts-below-horizon (projectOf p w) S (sound p (c .valid .ranges) w) (words-active p w inside S a) i
+          (has p w inside i there),
+      box-unmarked p w (c .valid .ranges),
+    )
 
 -- Where two sessions of a variant first differ, the activity is present: an absent one has the mark in both.
 sooner : {p : Plan} (w : Term) (a b : List ℕ) → ActiveSession p w a → ActiveSession p w b → Before a b → Sooner w a b
@@ -104,12 +110,12 @@ sooner w a b r s h =
       present =
           by-bool
           (member (d .place) (activities w))
-          (λ y. y)
+          (member-found (d .place) (activities w))
           (λ z. absurd (omega (
             arith,
             d .smaller,
-            r .marks (d .place) (omega (arith, d .inside, r .long)) .1 z,
-            s .marks (d .place) (omega (arith, d .inside, r .long)) .1 z,
+            r .marks (d .place) (omega (arith, d .inside, r .long)) .1 (absent w (d .place) .0 z),
+            s .marks (d .place) (omega (arith, d .inside, r .long)) .1 (absent w (d .place) .0 z),
           )));
       sooner = d .smaller;
       same = λ i _ l. d .same i l;
@@ -239,16 +245,33 @@ module _ (p : Plan) (t : Term) (valid : Valid p t) where
       known : (row : List ℕ) → List·Mem row (pairs p t) → List·Memᴰ row (pairs p t)
       known row = mem-found (List-discrete ℕ-discrete) row (pairs p t)
 
+  -- A row's makespan in words, and rows compared by it.
+  span-row : (row : List ℕ) → IsRow p t row → (n : ℕ) → (n ≡ rowSpan p t row) ↔ SpanOf p t row n
+  span-row row r n =
+      subst (λ (x : List ℕ). (n ≡ rowSpan p t x) ↔ SpanOf p t x n) (sym (r .whole))
+      (makespan-words p t (r .variant) (at (r .variant) (r .below)) (startsOf (r .starts)) n)
+
+  no-longer : (a b : List ℕ) → IsRow p t a → IsRow p t b → rowSpan p t a ≤ rowSpan p t b → NoLonger p t a b
+  no-longer a b r s l m n x y = omega (arith, span-row a r m .1 x, span-row b s n .1 y)
+
+  no-longer-span : (a b : List ℕ) → IsRow p t a → IsRow p t b → NoLonger p t a b → rowSpan p t a ≤ rowSpan p t b
+  no-longer-span a b r s f =
+      f (rowSpan p t a) (rowSpan p t b) (span-row a r (rowSpan p t a) .0 refl) (span-row b s (rowSpan p t b) .0 refl)
+
   pub best-first : FirstShortest p t (firstShortest p t)
   best-first =
-      let f : First p t (firstShortest p t) = first-shortest p t valid in
+      let best : List ℕ = firstShortest p t in
+      let f : First p t best = first-shortest p t valid in
+      let r : IsRow p t best = is-row best (f .one-of) in
       record {
-        one-of = is-row (firstShortest p t) (f .one-of);
-        least = λ other r. f .least other (row-is other r);
+        one-of = r;
+        least = λ other s. no-longer best other r s (f .least other (row-is other s));
         first =
-            λ other r same ne.
-            before-words (firstShortest p t) other (is-row (firstShortest p t) (f .one-of)) r
-            (differ-before (firstShortest p t) other (f .first other (row-is other r) same) (λ e. ne (sym e)));
+            λ other s short ne.
+            let here = row-is other s in
+            let same : rowSpan p t other ≡ rowSpan p t best =
+            omega (arith, no-longer-span other best s r short, f .least other here) in
+            before-words best other r s (differ-before best other (f .first other here same) (λ e. ne (sym e)));
       }
 
   pub best-shortest : ShortestRows p t (shortestCount p t)
@@ -263,11 +286,18 @@ module _ (p : Plan) (t : Term) (valid : Valid p t) where
           λ m.
               let (here, y) = keep-is (isShortest p t) (pairs p t) m in
               let own : rowSpan p t row ≡ leastOf (spans p t) = eqb-true _ _ y in
-              (is-row row here, λ other r. omega (arith, own, below other r)),
+              let r : IsRow p t row = is-row row here in
+              (r, λ other s. no-longer row other r s (omega (arith, own, below other s))),
           λ h.
+              let first : IsRow p t (firstShortest p t) = best-first .one-of in
               keep-mem (isShortest p t) (pairs p t) (row-is row (h .0))
               (eq-eqb (rowSpan p t row) (leastOf (spans p t))
-              (omega (arith, span, below row (h .0), h .1 (firstShortest p t) (best-first .one-of)))),
+              (omega (
+                arith,
+                span,
+                below row (h .0),
+                no-longer-span row (firstShortest p t) (h .0) first (h .1 (firstShortest p t) first),
+              ))),
         );
         once =
             keep-pairwise (isShortest p t) (pairs p t)

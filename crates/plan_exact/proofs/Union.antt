@@ -15,6 +15,7 @@ use Rattle.plan.specs.Plan.{Plan}
 use Rattle.term.specs.Term.{Term}
 use Rattle.term.specs.Valid.{HasVariant, Valid}
 use Rattle.term.specs.Variants.{variantCount, activities, member}
+use Rattle.term.proofs.Twice.{member-found, member-is}
 use Rattle.timetable.specs.Mark.{mark}
 use Rattle.schedule.specs.Project.{Project}
 use Rattle.schedule.specs.Schedule.{Starts, active, makespan}
@@ -27,6 +28,7 @@ use Rattle.variant.specs.Pairs.{sessionsOf, isNew}
 use Rattle.variant.specs.Words.{MarksAbsent}
 use Rattle.variant.proofs.Instance.{sound, has-of}
 use Rattle.variant.proofs.RoundTrip.{variant-below}
+use Rattle.variant.proofs.Words.{absent}
 use Rattle.plan_exact.proofs.Variant.{chosen, box-unmarked}
 
 -- The box has no start as late as the mark, so a session has the mark exactly at the absent activities.
@@ -36,16 +38,14 @@ unfolding projectOf
 session-marks p t v c row m i l =
     let w = variantAt t v in
     let P : Project = projectOf p w in (
-      λ e.
-          by-bool
-          (member i (activities w))
-          (λ y. absurd (omega (
+      λ e there.
+          omega (
             arith,
             e,
-            box.session-unmarked P mark row m (box-unmarked p w (c .valid .ranges)) i (has-of p w i l y),
-          )))
-          (λ z. z),
-      λ z. box.session-is P mark row m .marked i l z,
+            box.session-unmarked P mark row m (box-unmarked p w (c .valid .ranges)) i
+                (has-of p w i l (member-is there)),
+          ),
+      λ gone. box.session-is P mark row m .marked i l (absent w i .1 gone),
     )
 
 module _ (p : Plan) (t : Term) (valid : Valid p t) where
@@ -64,8 +64,10 @@ module _ (p : Plan) (t : Term) (valid : Valid p t) where
         (member i (activities (variantAt t b)))
         (λ there. there)
         (λ gone.
-        let e : startsOf row i ≡ mark = session-marks p t b (chosen p t b valid lb) row mb i l .1 gone in
-        true-not-false y (session-marks p t a (chosen p t a valid la) row ma i l .0 e))
+        let e : startsOf row i ≡ mark =
+        session-marks p t b (chosen p t b valid lb) row mb i l .1 (absent (variantAt t b) i .0 gone) in
+        absurd (session-marks p t a (chosen p t a valid la) row ma i l .0 e
+        (member-found i (activities (variantAt t a)) y)))
 
     pub same-members : (i : ℕ) → member i (activities (variantAt t u)) ≡ member i (activities (variantAt t v))
     same-members i =

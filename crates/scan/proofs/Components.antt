@@ -1,5 +1,6 @@
--- Components as numbers: which activities a step joins, that a component's number is none above its activities, and
--- that two that hold units of one resource are of one component.
+-- Components as numbers: which activities a step joins, that a component's number is none above its activities, that
+-- two that hold units of one resource are of one component, and that two of one component do so where no activity holds
+-- units of several.
 use Prim.Native.Nat.{ℕ, zero, suc, _≤_, _<_}
 use native.Mathlib.Decide.{ℕ-discrete}
 use native.Mathlib.Nat.{not-suc-le-zero}
@@ -153,3 +154,21 @@ module _ (p : Project) where
       merged-touched p (componentBelow p n) n i (at i bi ui)
       ∙ sym (merged-touched p (componentBelow p n) n k (at k bk uk)))
       (λ ne. merged-same p (componentBelow p n) n k i (component-joint n i k r bi bk (omega arith) ui uk))
+
+  -- Where each holds units of no resource but its own, two of one component have the same.
+  module _ (resource : ℕ → ℕ)
+      (alone : (i r : ℕ) → i < p .size → r < p .resources → uses p r i ≡ true → resource i ≡ r)
+    where
+      pub component-alone : (n i k : ℕ) → n ≤ p .resources → i < p .size → k < p .size
+          → componentBelow p n i ≡ componentBelow p n k → resource i ≡ resource k
+      unfolding componentBelow
+      component-alone zero i k l bi bk e = ap resource e
+      component-alone (suc n) i k l bi bk e =
+          let comp : ℕ → ℕ = componentBelow p n in
+          let on : (j : ℕ) → j < p .size → Touched p comp n j → resource j ≡ n =
+          λ j b h.
+          component-alone n j (h .user) (omega arith) b (h .below) (sym (h .same))
+          ∙ alone (h .user) n (h .below) (omega arith) (h .holds) in
+          by-touched p comp n i
+          (λ h. on i bi h ∙ sym (on k bk (merged-both p comp n i k h (sym e))))
+          (λ none. component-alone n i k (omega arith) bi bk (sym (merged-none p comp n i k none (sym e))))

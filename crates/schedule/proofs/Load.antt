@@ -1,7 +1,7 @@
 -- The activities of a project, the units that they hold on a tick, and the latest end. Loads are compared activity by
 -- activity, also between a project and the part of it that a set of its activities makes.
 use Prim.Native.Nat.{ℕ, _+_, _≤_, _<_}
-use native.Mathlib.Decide.{ℕ-discrete}
+use native.Mathlib.Decide.{ℕ-discrete, decLt}
 use native.Mathlib.Omega.{arith}
 use mathlib.Core.Bool.{Bool, true, false, cond, _&&_}
 use mathlib.Core.Path.{_≡_, refl}
@@ -14,6 +14,7 @@ pub use Rattle.schedule.specs.Facts.{Sound, Unfixed, among}
 use Rattle.schedule.specs.Schedule.{Starts, endOf, runs, load, latestEnd, moved}
 use Rattle.base.proofs.Bools.{by-bool, both, and-left, and-right, cond-true, cond-false}
 use Rattle.base.proofs.Below.{cond-le, sum-le, sum-le-but, sum-zero, sum-term, sum-some, max-term, max-least}
+use Rattle.base.proofs.Below.{max-reached}
 
 -- i runs on tick t.
 abbrev pub Runs : Project → Starts → ℕ → ℕ → Type 0
@@ -170,6 +171,21 @@ ends-least p S b f =
     (p .present i)
     (λ y. omega (arith, f i (record { below = l; there = y }), cond-true (endOf p S i) 0 y))
     (λ z. omega (arith, cond-false (endOf p S i) 0 z)))
+
+-- Where there is an activity, it is the end of one.
+pub latest-reached : (p : Project) (S : Starts) (i : ℕ) → Has p i → (k : ℕ) × Has p k × (latestEnd p S ≡ endOf p S k)
+unfolding latestEnd
+latest-reached p S i h =
+    let ends : ℕ → ℕ = λ k. cond (p .present k) (endOf p S k) 0 in
+    by-cases
+    (decLt 0 (latestEnd p S))
+    (λ l.
+    let (k, b, e) = max-reached (p .size) ends l in
+    by-bool
+    (p .present k)
+    (λ y. (k, record { below = b; there = y }, omega (arith, e, cond-true (endOf p S k) 0 y)))
+    (λ z. absurd (omega (arith, e, l, cond-false (endOf p S k) 0 z))))
+    (λ g. (i, h, omega (arith, end-le p S i h)))
 
 pub latest-mono : (p : Project) (S S′ : Starts) → ((i : ℕ) → Has p i → S i ≤ S′ i) → latestEnd p S ≤ latestEnd p S′
 latest-mono p S S′ f = ends-least p S (latestEnd p S′) (λ i h. omega (arith, f i h, end-le p S′ i h))

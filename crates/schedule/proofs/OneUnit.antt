@@ -1,23 +1,26 @@
 -- The bench of the first edition: each resource has one unit, an activity takes that of its own resource, there are
 -- no gaps, every activity is free and the clock starts at 0. There the rule by ticks says that two on one resource do
--- not overlap.
-use Prim.Native.Nat.{ℕ, _≤_, _<_}
+-- not overlap, and the load of a resource is what the durations of its activities add up to.
+use Prim.Native.Nat.{ℕ, _*_, _≤_, _<_}
 use native.Mathlib.Decide.{ℕ-discrete, decLe}
 use native.Mathlib.Omega.{arith}
-use mathlib.Core.Bool.{true, cond}
-use mathlib.Core.Path.{_≡_, refl, sym, _∙_}
+use mathlib.Core.Bool.{Bool, true, false, cond, _&&_}
+use mathlib.Core.Path.{_≡_, refl, sym, ap, _∙_, subst}
 use mathlib.Core.Logic.{_≢_, _↔_, inl, inr, ⊎-elim, by-cases}
 use lib.Dec.{eqb}
 use borrow.Author.Tests.{eqb-true, eq-eqb}
+use Rattle.base.specs.Below.{sumBelow}
 use Rattle.schedule.specs.Project.{Project}
+use Rattle.schedule.specs.Bounds.{demand, loadOf}
 use Rattle.schedule.specs.Words.{NoOverlap, InWords}
 use Rattle.schedule.specs.Schedule.{Starts, endOf, runs, load}
 use Rattle.base.proofs.Bools.{by-bool, true-not-false, cond-true, cond-false}
-use Rattle.base.proofs.Below.{cond-le, sum-two, sum-one}
+use Rattle.base.proofs.Below.{cond-le, sum-eq, sum-two, sum-one}
 use Rattle.schedule.proofs.Load.{Has, Sound, Unfixed, Runs, runs-is, runs-there, holds, holds-all, holds-some}
 use Rattle.schedule.proofs.Load.{holds-le}
 use Rattle.schedule.proofs.Reflect.{Feasible}
 use Rattle.schedule.proofs.Bounds.{NoGaps}
+use Rattle.schedule.proofs.Lower.{load-covers, load-least}
 
 -- One unit to a resource, taken by the activities whose resource it is.
 pub record OneUnit (p : Project) (resource : ℕ → ℕ) : Type 0 where
@@ -107,6 +110,37 @@ module _ (p : Project) (resource : ℕ → ℕ) (one : OneUnit p resource) (S : 
             (λ q. q)
             (λ ne. absurd (⊎-elim (λ a. omega arith) (λ a. omega arith) (apart i j hi hj ne (ei ∙ sym ej))))),
       )
+
+-- The load: the durations of the activities that are there and have this resource.
+asked : (d u : ℕ) (there own : Bool) → (there ≡ true → u ≡ cond own 1 0)
+    → cond there (d * u) 0 ≡ cond (there && own) d 0
+asked d u true true e = ap (λ (k : ℕ). d * k) (e refl) ∙ omega arith
+asked d u true false e = ap (λ (k : ℕ). d * k) (e refl) ∙ omega arith
+asked d u false own e = refl
+
+module _ (p : Project) (resource : ℕ → ℕ) (one : OneUnit p resource) (r : ℕ) (l : r < p .resources) where
+  load-demand : loadOf p r ≡ demand p r
+  load-demand =
+      let single : p .capacity r ≡ 1 = one .single r l in
+      let some : 0 < p .capacity r = omega arith in
+      let covers : demand p r ≤ loadOf p r * 1 =
+      subst (λ (c : ℕ). demand p r ≤ loadOf p r * c) single (load-covers p r some) in
+      let least : loadOf p r ≤ demand p r =
+      load-least p r (demand p r) some (subst (λ (c : ℕ). demand p r ≤ demand p r * c) (sym single) (omega arith)) in
+      omega arith
+
+  pub load-durations : loadOf p r
+      ≡ sumBelow (p .size) (λ i. cond (p .present i && eqb (resource i) r) (p .duration i) 0)
+  unfolding demand
+  load-durations =
+      load-demand
+      ∙ sum-eq
+      (p .size)
+      (λ i. cond (p .present i) (p .duration i * p .units i r) 0)
+      (λ i. cond (p .present i && eqb (resource i) r) (p .duration i) 0)
+      (λ i b.
+      asked (p .duration i) (p .units i r) (p .present i) (eqb (resource i) r)
+      (λ y. one .takes i r (record { below = b; there = y }) l))
 
 -- The bench, and feasible in the words of the papers.
 pub record Bench (p : Project) (resource : ℕ → ℕ) : Type 0 where

@@ -21,7 +21,7 @@ ghost use Prim.Native.Nat.{ℕ, _^_, _≤_, _<_};
 ghost use Rattle.plan.specs.Limits.{latestPossible};
 ghost use Rattle.sets.specs.Sets.{most, has};
 ghost use Rattle.instance.specs.Instance.{Laid};
-ghost use Rattle.instance.specs.Table.{actsOf};
+ghost use Rattle.instance.specs.Table.{actsOf, ownAt};
 ghost use Rattle.profile.specs.Work.{soonAt, Timed};
 ghost use Rattle.steps.specs.Steps.{Sets, Runs, frozenIn, runningIn, waitingIn, looseIn, deletedLine};
 ghost use Rattle.steps.specs.Steps.{never, isAhead, isFree, FirstEnd, FirstStop, Moves, Last, Shifts, Deletes};
@@ -71,15 +71,22 @@ pub struct Stop {
     pub due: u32,
 }
 
+// The number of the component of an activity.
+fn component_of(table: &Table, i: usize) -> usize
+    requires { ⌜ Laid (now table) × (i < actsOf (now table)) ⌝ }
+    ensures { λ r. ⌜ (r ≡ ownAt (now (table .entry)) i) × (r < most) ⌝ }
+{
+    lowest(table[COMPONENT + i])
+}
+
 // The first tick on which one that is placed and not frozen can start.
 pub fn soon_of(table: &Table, work: &Work, i: usize) -> u32
     requires { ⌜ Laid (now table) × (i < actsOf (now table)) ⌝ }
     ensures { λ r. ⌜ r ≡ soonAt (now (table .entry)) (now (work .entry)) i ⌝ }
 {
-    later(
-        ready_of(work, i),
-        free_of(work, lowest(table[COMPONENT + i])),
-    )
+    let ready = ready_of(work, i);
+    let free = free_of(work, component_of(table, i));
+    later(ready, free)
 }
 
 // The first of a tick and the ends of a set that is placed and not frozen.
@@ -94,7 +101,7 @@ fn first_stop(table: &Table, work: &Work, set: u32, first: u32) -> Stop
     while rest != 0 {
         let i = lowest(rest);
         rest = after_lowest(rest);
-        let own = sets::single(lowest(table[COMPONENT + i]));
+        let own = sets::single(component_of(table, i));
         let end = soon_of(table, work, i) + table[i];
         if end < tick {
             tick = end;
@@ -198,10 +205,10 @@ fn is_free(table: &Table, work: &Work, line: Line, i: usize) -> bool
     requires { ⌜ Sets (now table) (now work) line × Runs (now table) (now work) line × (has (line .left) i ≡ true) ⌝ }
     ensures { λ r. ⌜ r ≡ isFree (now (table .entry)) (now (work .entry)) line i ⌝ }
 {
-    let component = table[COMPONENT + i];
     if sets::contains(table[TIGHT], i) {
-        return free_of(work, lowest(component)) <= line.tick;
+        return free_of(work, component_of(table, i)) <= line.tick;
     }
+    let component = table[COMPONENT + i];
     let among = sets::common(running(line), component);
     has_left(table, among, i)
 }

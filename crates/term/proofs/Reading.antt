@@ -169,7 +169,7 @@ nodes-termOf ns t e = sym (append-nil (nodes t)) ∙ nodes-forest ns (cons t nil
     go (some (cons u nil)) e = cc
     go (some (cons u (cons v f))) e = absurd (Option·none-ne-some t e)
 
-none-if : (ns : List Node) → ((t : Term) → nodes t ≡ ns → ⊥) → termOf ns ≡ none
+pub none-if : (ns : List Node) → ((t : Term) → nodes t ≡ ns → ⊥) → termOf ns ≡ none
 none-if ns h = go (termOf ns) refl
   where
     go : (o : Option Term) → termOf ns ≡ o → termOf ns ≡ none

@@ -3,28 +3,27 @@ use Prim.Native.Nat.{ℕ, _≤_, _<_}
 use native.Mathlib.Omega.{arith}
 use mathlib.Core.Bool.{Bool}
 use mathlib.Core.List.{List, _∷_, map, perm-ext-iff-of-nodup}
-use mathlib.Core.Logic.{∥∥₁-map}
-use mathlib.Core.Path.{_≡_, sym, ap, _∙_, subst}
+use mathlib.Core.Logic.{_↔_, ∥∥₁-map}
+use mathlib.Core.Path.{_≡_, refl, sym, ap, _∙_, subst}
 use borrow.Author.Tests.{le-leb, lt-leb}
-use lib.ListN.{length, length-map}
+use lib.ListN.{length-map}
 use Rattle.base.proofs.Lists.{perm-length}
 use Rattle.plan.specs.Plan.{Plan}
 use Rattle.plan.specs.declared.Refusal.the-variants.{OverCap}
 use Rattle.term.specs.Term.{Term}
-use Rattle.term.specs.Valid.{Valid}
+use Rattle.term.specs.Valid.{Valid, HasVariant}
 use Rattle.term.specs.Variants.{variantCount}
 use Rattle.schedule.specs.Schedule.{Starts}
 use Rattle.schedule.specs.Sessions.{startsOf}
-use Rattle.schedule.proofs.Reflect.{Feasible, feasible-is, feasible-of}
+use Rattle.schedule.proofs.Reflect.{Feasible}
 use Rattle.variant.specs.Pairs.{pairs, pairCount}
 use Rattle.variant.specs.Project.{variantAt, projectOf}
 use Rattle.variant.specs.Timetable.{timetableOf}
-use Rattle.variant.specs.Words.{Present, Keeps}
-use Rattle.variant.proofs.RoundTrip.{variant-below}
-use Rattle.variant.proofs.Words.{keeps-is, keeps-of, session-means}
+use Rattle.variant.specs.Words.{Keeps, Makespan}
+use Rattle.variant.proofs.Words.{variant-inside, keeps-means, session-means}
 use Rattle.judge.specs.Judge.{accepts}
 use Rattle.answers.specs.Shortest.{makespanIn, rowStarts, firstShortest, bestRow, noBest, bestWithin, bestBy}
-use Rattle.plan_exact.proofs.Meaning.{pairs-listing, best-first}
+use Rattle.plan_exact.proofs.Meaning.{makespan-words, pairs-listing, best-first}
 use Rattle.plan_exact.proofs.Pairs.{pair-is, pair-checks, pair-span}
 use Rattle.plan_exact.proofs.Shortest.{First, first-shortest, first-active, first-least, first-chains, first-loads}
 use Rattle.plan_exact.proofs.Shortest.{first-at-most}
@@ -47,22 +46,28 @@ module _ (p : Plan) (t : Term) (valid : Valid p t) where
       ∙ perm-length (a .sessions) (map rowStarts (pairs p t)) perm
       ∙ length-map (pairs p t) rowStarts
 
+  -- There is such a number.
+  pub active-sessions : ActiveSessions p t (pairCount p t)
+  unfolding pairCount
+  active-sessions =
+      let all = pairs-listing p t valid in
+      record {
+        sessions = map rowStarts (pairs p t);
+        exactly = all .union;
+        once = all .once;
+        count = length-map (pairs p t) rowStarts;
+      }
+
   -- Feasible by the test and in words.
   module _ (v : ℕ) (below : v < variantCount t) where
-    inside : (i : ℕ) → Present (variantAt t v) i → i < length (p .activities)
-    inside = variant-below p t v (record { valid = valid; below = below })
+    here : HasVariant p t v
+    here = record { valid = valid; below = below }
 
-    tested : (S : Starts) → Keeps p (variantAt t v) S → Feasible (projectOf p (variantAt t v)) S
-    tested S k =
-        feasible-is (projectOf p (variantAt t v)) S (keeps-of p (variantAt t v) inside S k)
+    means : (S : Starts) → Feasible (projectOf p (variantAt t v)) S ↔ Keeps p (variantAt t v) S
+    means = keeps-means p (variantAt t v) (variant-inside p t v here)
 
-    in-words : (S : Starts) → Feasible (projectOf p (variantAt t v)) S → SessionOfVariant p t v S
-    in-words S f =
-        record {
-          below = below;
-          keeps =
-              keeps-is p (variantAt t v) inside S (feasible-of (projectOf p (variantAt t v)) S f);
-        }
+    spans : (S : Starts) (n : ℕ) → (n ≡ makespanIn p t v S) ↔ Makespan p (variantAt t v) S n
+    spans = makespan-words p t v here
 
   -- The first shortest pair is a shortest session,
   module _ (v : ℕ) (ss : List ℕ) (first : First p t (v ∷ ss)) where
@@ -72,24 +77,38 @@ module _ (p : Plan) (t : Term) (valid : Valid p t) where
     below : v < variantCount t
     below = pair-is p t v ss (first .one-of) .below
 
-    least : (u : ℕ) (S : Starts) → SessionOfVariant p t u S → span ≤ makespanIn p t u S
-    least u S f = first-least p t valid v ss first u S (f .below) (tested u (f .below) S (f .keeps))
+    own : SessionOfVariant p t v (startsOf ss)
+    own =
+        record {
+          below = below;
+          keeps = means v below (startsOf ss) .0 (first-active p t valid v ss first .is-feasible);
+        }
+
+    least : (u : ℕ) (S : Starts) (n : ℕ) → SessionOfVariant p t u S → Makespan p (variantAt t u) S n → span ≤ n
+    least u S n f m =
+        omega (
+          arith,
+          spans u (f .below) S n .1 m,
+          first-least p t valid v ss first u S (f .below) (means u (f .below) S .1 (f .keeps)),
+        )
 
     pub shortest-words : ShortestSession p t v span (timetableOf p ss)
     shortest-words =
         record {
           below = below;
           session =
-              session-means p (variantAt t v) (inside v below) (timetableOf p ss) .0
+              session-means p (variantAt t v) (variant-inside p t v (here v below)) (timetableOf p ss) .0
               (pair-checks p t valid v ss (first .one-of));
-          own = pair-span p t valid v ss (first .one-of);
+          own = spans v below (startsOf (timetableOf p ss)) span .0 (pair-span p t valid v ss (first .one-of));
           least = least;
-          exactly = λ u S f. (
-            λ e x R g l. absurd (omega (arith, least x R g)),
+          exactly = λ u S n f m. (
+            λ e x R k g r l. absurd (omega (arith, least x R k g r)),
             λ none.
-                let own : SessionOfVariant p t v (startsOf ss) =
-                in-words v below (startsOf ss) (first-active p t valid v ss first .is-feasible) in
-                omega (arith, least u S f, none v (startsOf ss) own),
+                omega (
+                  arith,
+                  least u S n f m,
+                  none v (startsOf ss) span own (spans v below (startsOf ss) span .0 refl),
+                ),
           );
         }
 

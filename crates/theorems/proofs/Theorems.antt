@@ -6,17 +6,18 @@ use native.Mathlib.Omega.{arith}
 use mathlib.Core.Bool.{true}
 use mathlib.Core.List.{List, _∷_, List·Memᴰ, Perm}
 use mathlib.Core.Logic.{_↔_, by-cases}
-use mathlib.Core.Path.{_≡_, sym, ap, _∙_, subst}
+use mathlib.Core.Path.{_≡_, refl, sym, ap, _∙_, subst}
 use mathlib.Core.Option.{some}
 use lib.ListN.{length, take}
 use Rattle.base.specs.Lists.{every}
-use Rattle.plan.specs.Limits.{longest}
+use Rattle.plan.specs.Limits.{longestOf, longest, isEdition}
 use Rattle.plan.specs.Plan.{Plan, Node, isNode}
 use Rattle.plan.specs.declared.Refusal.{Refusal}
-use Rattle.plan.specs.declared.Refusal.the-variants.{OverCap}
+use Rattle.plan.specs.declared.Refusal.the-variants.{NotOneTerm, Twice, TooManyVariants, OverCap}
 use Rattle.format.specs.Text.{text}
 use Rattle.format.proofs.Longest.{longestPlan}
 use Rattle.timetable.specs.Mark.{mark}
+use Rattle.schedule.specs.Bounds.{loadOf}
 use Rattle.schedule.specs.Schedule.{Starts}
 use Rattle.schedule.specs.Sessions.{startsOf, sessions}
 use Rattle.term.specs.Term.{Term, full, termOf}
@@ -29,16 +30,19 @@ use Rattle.term.proofs.Reduced.{variants-reduced}
 use Rattle.term.proofs.Twice.{twice-clash, twice-means}
 use Rattle.variant.specs.Pairs.{pairs, pairCount}
 use Rattle.variant.specs.Project.{variantAt, projectOf}
-use Rattle.variant.specs.Words.{Keeps, KeepsApart}
+use Rattle.variant.specs.FirstEdition.{timeOn, inUnits}
+use Rattle.variant.specs.Words.{Present, Keeps, resourceOf, KeepsApart, Makespan, IsActive}
 use Rattle.scan.specs.Components.{componentOf}
 use Rattle.scan.specs.Scan.{schedules}
 use Rattle.variant.specs.Timetable.{isSession, timetableOf}
 use Rattle.variant.specs.Written.{dissolved}
 use Rattle.variant.proofs.Dissolve.{dissolved-full}
-use Rattle.variant.proofs.RoundTrip.{variant-full, variant-below}
-use Rattle.variant.proofs.Words.{keeps-apart}
-use Rattle.judge.specs.Judge.{Verdict, accepts, judge}
+use Rattle.variant.proofs.FirstEdition.{load-time}
+use Rattle.variant.proofs.RoundTrip.{variant-full}
+use Rattle.variant.proofs.Words.{variant-inside, keeps-apart}
+use Rattle.judge.specs.Judge.{Verdict, accepts, refuses, judge}
 use Rattle.judge.proofs.Accepts.{accepted-valid, valid-accepted, accepted-short, longestTerm, longest-accepted}
+use Rattle.read.specs.Answer.{readOf}
 use Rattle.write.specs.Answer.{writeOf}
 use Rattle.write.specs.RoundTrip.{RoundTrip}
 use Rattle.write.specs.declared.WriteAnswer.the-variants.{Written}
@@ -55,12 +59,18 @@ use Rattle.answers.specs.declared.Best.{Best}
 use Rattle.answers.specs.declared.BestAnswer.the-variants.{Found, Refused}
 use Rattle.answers.specs.declared.ListAnswer.the-variants.{Listed}
 use Rattle.plan_exact.proofs.Found.{variant-scan}
-use Rattle.plan_exact.proofs.Meaning.{list-listing, pairs-listing, best-first, best-shortest}
+use Rattle.plan_exact.proofs.Meaning.{makespan-words, active-unmarked, list-listing, pairs-listing, best-first}
+use Rattle.plan_exact.proofs.Meaning.{best-shortest}
 use Rattle.plan_exact.proofs.Pairs.{pair-checks}
 use Rattle.theorems.specs.TurnedBack.{TurnedBack, Untouched}
+use Rattle.theorems.specs.Unfit.{NotWhole, HasTwice, HasTooMany}
 use Rattle.theorems.specs.Shortest.{ActiveSessions, ShortestSession, Between}
-use Rattle.theorems.proofs.Refused.{unfit-turned-back, untouched}
-use Rattle.theorems.proofs.Shortest.{active-count, shortest-words, shortest-between, row-first, over, within}
+use Rattle.theorems.proofs.FirstEdition.{component-resource, units-accepted, units-read, units-check}
+use Rattle.theorems.proofs.FirstEdition.{units-list, units-best}
+use Rattle.theorems.proofs.Refused.{turned-back, unfit-turned-back, untouched}
+use Rattle.theorems.proofs.Unfit.{not-whole, has-twice, has-too-many}
+use Rattle.theorems.proofs.Shortest.{active-count, active-sessions, shortest-words, shortest-between, row-first}
+use Rattle.theorems.proofs.Shortest.{over, within}
 
 -- 1. "Memory lent to it, of any length and content, is read within its ends and written only where the call names it;
 -- every call finishes; an unfit plan is refused by a fixed number; a refusal leaves the lent area as it stood."
@@ -74,7 +84,7 @@ pub demand-1 : (s : List ℕ)
 demand-1 s = (unfit-turned-back s, untouched s)
 
 -- 2. "An accepted plan has the variants of document 000, and the listing holds exactly the active schedules of its
--- Definition 2, each once per variant. A variant written out reads back as that variant."
+-- Definition 2, each once (since P3, over the whole plan). A variant written out reads back as that variant."
 --
 -- The variants are the reduced terms of document 000; what LIST leaves in the area when it answers n rows is that
 -- listing, in which a session that several variants have is there once, under the lowest; and the bytes that WRITE
@@ -144,6 +154,20 @@ demand-3 s p t accepted n active cap =
     never : {v span k m : ℕ} → Found v span k m ≡ Refused OverCap → ⊥
     never e = let z : _≡_ {A = ℕ} 0 1 = cc in omega arith
 
+-- There is such a number n: that of the rows of the listing.
+pub active-sessions-number : (p : Plan) (t : Term) → Valid p t → ActiveSessions p t (pairCount p t)
+active-sessions-number = active-sessions
+
+-- The makespan in plain words: latest end less earliest start.
+pub makespan-in-words : (p : Plan) (t : Term) (v : ℕ) → HasVariant p t v → (S : Starts) (n : ℕ)
+    → (n ≡ makespanIn p t v S) ↔ Makespan p (variantAt t v) S n
+makespan-in-words = makespan-words
+
+-- No active session is shut out by the mark: every start of one, starts being any whole ticks from 0, is smaller.
+pub unmarked : (p : Plan) (t : Term) (v : ℕ) → HasVariant p t v
+    → (S : Starts) → IsActive p (variantAt t v) S → (i : ℕ) → Present (variantAt t v) i → S i < mark
+unmarked = active-unmarked
+
 -- Which shortest: BEST answers a row of that listing that stands before every other of its makespan. The makespan is at
 -- least the chains and loads of its variant, and at most the sum of its durations.
 pub first-shortest-row : (s : List ℕ) (p : Plan) (t : Term) → judge s ≡ accepts p t
@@ -172,7 +196,37 @@ scan-theorem = variant-scan
 -- precede it, and two on one resource do not overlap.
 pub first-edition : (p : Plan) (t : Term) (v : ℕ) → HasVariant p t v → p .edition ≡ 1 → (S : Starts)
     → Keeps p (variantAt t v) S ↔ KeepsApart p (variantAt t v) S
-first-edition p t v c first S = keeps-apart p (variantAt t v) (variant-below p t v c) S (c .valid .ranges) first
+first-edition p t v c first S = keeps-apart p (variantAt t v) (variant-inside p t v c) S (c .valid .ranges) first
+
+-- In the first edition the load of a resource is the sum of the durations of the variant's activities on it.
+pub first-edition-load : (p : Plan) (t : Term) (v : ℕ) → HasVariant p t v → p .edition ≡ 1
+    → (r : ℕ) → r < length (p .capacities)
+    → loadOf (projectOf p (variantAt t v)) r ≡ timeOn p (variantAt t v) r
+first-edition-load p t v c first = load-time p (c .valid .ranges) first (variantAt t v)
+
+-- In the first edition a component is a resource: two activities of the plan are of one component exactly if they are
+-- on one resource.
+pub first-edition-component : (p : Plan) (t : Term) (v : ℕ) → HasVariant p t v → p .edition ≡ 1
+    → (i j : ℕ) → i < length (p .activities) → j < length (p .activities)
+    → (componentOf (projectOf p (variantAt t v)) i ≡ componentOf (projectOf p (variantAt t v)) j)
+    ↔ (resourceOf p i ≡ resourceOf p j)
+first-edition-component p t v c first = component-resource p (c .valid .ranges) first (variantAt t v)
+
+-- A plan of the first edition spelt as `plan=2` is accepted with the same term, and has the same listing and the same
+-- BEST, whatever the cap. READ and CHECK answer the same too.
+pub first-edition-spelt : (s : List ℕ) (p : Plan) (t : Term) → judge s ≡ accepts p t → p .edition ≡ 1
+    → (judge (text (inUnits p)) ≡ accepts (inUnits p) t)
+    × ((cap : ℕ) (area : List ℕ) → listOf (text (inUnits p)) cap area ≡ listOf s cap area)
+    × ((cap : ℕ) → bestOf (text (inUnits p)) cap ≡ bestOf s cap)
+    × (readOf (text (inUnits p)) ≡ readOf s)
+    × ((v : ℕ) (timetable : List ℕ) → checkOf (text (inUnits p)) v timetable ≡ checkOf s v timetable)
+first-edition-spelt s p t accepted first = (
+  units-accepted s p t accepted first,
+  units-list s p t accepted first,
+  units-best s p t accepted first,
+  units-read s p t accepted first,
+  units-check s p t accepted first,
+)
 
 -- Which files are accepted: exactly the texts of valid plans.
 pub accepted-texts : (s : List ℕ) (p : Plan) (t : Term) → (judge s ≡ accepts p t) ↔ (Valid p t × (s ≡ text p))
@@ -180,6 +234,18 @@ accepted-texts s p t = (
   accepted-valid s p t,
   λ h. subst (λ (x : List ℕ). judge x ≡ accepts p t) (sym (h .1)) (valid-accepted p t (h .0)),
 )
+
+-- A file that the judgement refuses is turned back so by every call, with the refusal's number and figure.
+pub refused-file : (s : List ℕ) (r : Refusal) → judge s ≡ refuses r → TurnedBack s r
+refused-file = turned-back
+
+-- What 4, 5 and 6 mean: the nodes are not one whole term; some variant has an activity twice; none has, and there are
+-- more than 4096 variants.
+pub unfit-terms : (s : List ℕ)
+    → ((judge s ≡ refuses NotOneTerm) ↔ NotWhole s)
+    × ((judge s ≡ refuses Twice) ↔ HasTwice s)
+    × ((judge s ≡ refuses TooManyVariants) ↔ HasTooMany s)
+unfit-terms s = (not-whole s, has-twice s, has-too-many s)
 
 -- CHECK says yes exactly to a timetable that is a feasible session of the variant.
 pub check-sessions : (s : List ℕ) (v : ℕ) (timetable : List ℕ)
@@ -192,11 +258,18 @@ pub listed-sessions : (p : Plan) (t : Term) → Valid p t → (v : ℕ) (starts 
     → isSession p (variantAt t v) (timetableOf p starts) ≡ true
 listed-sessions = pair-checks
 
--- No accepted file is longer than 2175 bytes, and one is as long.
-pub longest-file : ((s : List ℕ) (p : Plan) (t : Term) → judge s ≡ accepts p t → length s ≤ longest)
-    × ((s : List ℕ) × (p : Plan) × (t : Term) × (judge s ≡ accepts p t) × (length s ≡ longest))
-longest-file =
-    (accepted-short, (text longestPlan, longestPlan, longestTerm, longest-accepted .0, longest-accepted .1))
+-- No accepted file is longer than the limit of its edition, 983 or 2175 bytes, and so than the longest of any.
+pub longest-file : (s : List ℕ) (p : Plan) (t : Term) → judge s ≡ accepts p t
+    → (length s ≤ longestOf (p .edition)) × (length s ≤ longest)
+longest-file = accepted-short
+
+-- Of each edition one is as long.
+pub longest-reached : (edition : ℕ) → isEdition edition ≡ true
+    → (s : List ℕ) × (p : Plan) × (t : Term) × (judge s ≡ accepts p t) × (p .edition ≡ edition)
+    × (length s ≡ longestOf edition)
+longest-reached edition e =
+    let (accepted, long) = longest-accepted edition e in
+    (text (longestPlan edition), longestPlan edition, longestTerm, accepted, refl, long)
 
 -- In an accepted plan every group has two children or more. In any such term neither a pick at an x nor rules (3) and
 -- (5) make a group of one, so that no written variant has one.

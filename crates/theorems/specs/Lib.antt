@@ -1,3 +1,4 @@
 -- The words in which the theorems are said.
 pub mod TurnedBack
+pub mod Unfit
 pub mod Shortest

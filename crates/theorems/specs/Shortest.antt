@@ -11,8 +11,7 @@ use Rattle.schedule.specs.Bounds.{Chain, chainLength, loadOf, work}
 use Rattle.schedule.specs.Schedule.{Starts}
 use Rattle.schedule.specs.Sessions.{startsOf}
 use Rattle.variant.specs.Project.{variantAt, projectOf}
-use Rattle.variant.specs.Words.{Keeps, Session}
-use Rattle.answers.specs.Shortest.{makespanIn}
+use Rattle.variant.specs.Words.{Keeps, Makespan, Session}
 use Rattle.answers.specs.Words.{ActiveForSome}
 
 -- The variants together have n active sessions: so many are active for some variant.
@@ -27,9 +26,10 @@ pub record SessionOfVariant (p : Plan) (t : Term) (v : ℕ) (S : Starts) : Type 
   pub below : v < variantCount t
   pub keeps : Keeps p (variantAt t v) S
 
--- No feasible session of any variant is shorter than S of v.
-abbrev pub Unbeaten : Plan → Term → ℕ → Starts → Type 0
-Unbeaten p t v S = (u : ℕ) (R : Starts) → SessionOfVariant p t u R → makespanIn p t u R < makespanIn p t v S → ⊥
+-- No feasible session of any variant is shorter than n ticks.
+abbrev pub Unbeaten : Plan → Term → ℕ → Type 0
+Unbeaten p t n =
+    (u : ℕ) (R : Starts) (m : ℕ) → SessionOfVariant p t u R → Makespan p (variantAt t u) R m → m < n → ⊥
 
 -- The timetable is a feasible session of variant v, `span` is its own makespan, and any feasible session S of any
 -- variant has at least that makespan, the two being equal exactly when no feasible session of any variant is shorter
@@ -37,9 +37,12 @@ Unbeaten p t v S = (u : ℕ) (R : Starts) → SessionOfVariant p t u R → makes
 pub record ShortestSession (p : Plan) (t : Term) (v span : ℕ) (timetable : List ℕ) : Type 0 where
   pub below : v < variantCount t
   pub session : Session p (variantAt t v) timetable
-  pub own : span ≡ makespanIn p t v (startsOf timetable)
-  pub least : (u : ℕ) (S : Starts) → SessionOfVariant p t u S → span ≤ makespanIn p t u S
-  pub exactly : (u : ℕ) (S : Starts) → SessionOfVariant p t u S → (makespanIn p t u S ≡ span) ↔ Unbeaten p t u S
+  pub own : Makespan p (variantAt t v) (startsOf timetable) span
+  pub least :
+      (u : ℕ) (S : Starts) (n : ℕ) → SessionOfVariant p t u S → Makespan p (variantAt t u) S n → span ≤ n
+  pub exactly :
+      (u : ℕ) (S : Starts) (n : ℕ) → SessionOfVariant p t u S → Makespan p (variantAt t u) S n
+      → (n ≡ span) ↔ Unbeaten p t n
 
 -- The makespan is at least each chain and each resource's load of the variant, the load rounded up, and at most the sum
 -- of its durations.

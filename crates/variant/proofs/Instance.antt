@@ -71,17 +71,23 @@ module _ (p : Plan) (valid : isPlan p ≡ true) where
   sound w = record { lasts = λ i h. duration-at i (h .below) .0 }
 
   module _ (first : saysUnits (p .edition) ≡ false) where
+    pub own-at : (i : ℕ) → i < length (p .activities) → resourceOf p i < length (p .capacities)
+    own-at i h = own-below (p .edition) (length (p .capacities)) (activityAt p i) (is-activity i h) first
+
+    pub own-units : (i r : ℕ) → i < length (p .activities) → r < length (p .capacities)
+        → unitsAt p i r ≡ cond (eqb (resourceOf p i) r) 1 0
+    own-units i r h l =
+        ap (λ (us : List ℕ). getD us r 0)
+        (units-own (p .edition) (length (p .capacities)) (activityAt p i) (is-activity i h) first)
+        ∙ one-at (length (p .capacities)) (resourceOf p i) r l
+
     one-unit : (w : Term) → OneUnit (projectOf p w) (resourceOf p)
     unfolding projectOf
     one-unit w =
-        let resources = length (p .capacities) in
         record {
-          on = λ i h. own-below (p .edition) resources (activityAt p i) (is-activity i (h .below)) first;
+          on = λ i h. own-at i (h .below);
           single = λ r l. omega (arith, capacity-between r l, cond-false {A = ℕ} 15 1 first);
-          takes = λ i r h l.
-              ap (λ (us : List ℕ). getD us r 0)
-              (units-own (p .edition) resources (activityAt p i) (is-activity i (h .below)) first)
-              ∙ one-at resources (resourceOf p i) r l;
+          takes = λ i r h l. own-units i r (h .below) l;
         }
 
 pub unfixed : (p : Plan) (w : Term) → Unfixed (projectOf p w)

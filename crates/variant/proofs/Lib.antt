@@ -8,4 +8,5 @@ pub mod Fit
 pub mod RoundTrip
 pub mod Instance
 pub mod Words
+pub mod FirstEdition
 pub mod Tables

@@ -4,6 +4,7 @@ pub mod Project
 pub mod Timetable
 pub mod Pairs
 pub mod Words
+pub mod FirstEdition
 pub mod Written
 pub mod Tables
 pub mod Pick

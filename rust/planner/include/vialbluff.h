@@ -21,9 +21,11 @@
  * lowest of them.
  *
  * A refusal changes no area. Success changes only what is named at the call. A timetable has a start for each of 24
- * activity numbers, and VIALBLUFF_ABSENT at an absent one. No call keeps a pointer; areas do not overlap.
+ * activity numbers, and VIALBLUFF_ABSENT at an absent one. No call keeps a pointer.
  *
- * A call needs at most 640 KiB of stack: LIST and BEST keep the order of each variant there.
+ * The caller gives pointers that are valid for the lengths given with them and aligned for their types (also where a
+ * length is 0: not NULL), areas that do not overlap, and 640 KiB of stack: LIST and BEST keep the order of each variant
+ * there. That the stack is enough is tested, not proved.
  */
 #ifndef VIALBLUFF_H
 #define VIALBLUFF_H

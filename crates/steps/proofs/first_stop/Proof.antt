@@ -18,6 +18,7 @@ use Rattle.sets.proofs.after_lowest.Reads as after-lowest-reads
 use Rattle.sets.proofs.lowest.Reads as lowest-reads
 use Rattle.sets.proofs.single.Reads as single-reads
 use Rattle.sets.proofs.union.Reads as union-reads
+use Rattle.steps.proofs.component_of.Reads as component-of-reads
 use Rattle.steps.proofs.soon_of.Reads as soon-of-reads
 
 abbrev Inv-loop : tie.InvT-loop
@@ -34,6 +35,8 @@ Taken =
       lowest-reads.Learnt,
       after-lowest-reads.Asked,
       after-lowest-reads.Learnt,
+      component-of-reads.Asked,
+      component-of-reads.Learnt,
       single-reads.Asked,
       single-reads.Learnt,
       soon-of-reads.Asked,
@@ -78,34 +81,25 @@ lowest-requires c κs = search needs
 after-lowest-requires : tie.Need-after-lowest-requires Inv-loop μ-loop
 after-lowest-requires c κs = search needs
 
-add-lowest : tie.Need-add-lowest Inv-loop μ-loop
-add-lowest c = record { fits = omega (arith, turn c .below) }
-
-mul-lowest : tie.Need-mul-lowest Inv-loop μ-loop
-mul-lowest c = record { fits = omega (arith, turn c .below) }
-
-element-copy-out-lowest : tie.Need-element-copy-out-lowest Inv-loop μ-loop
-element-copy-out-lowest c = omega (arith, turn c .below)
-
-lowest-requires-2 : tie.Need-lowest-requires-2 Inv-loop μ-loop
-lowest-requires-2 c κs = search needs
+component-of-requires : tie.Need-component-of-requires Inv-loop μ-loop
+component-of-requires c κs = (c .before .before .before .before .pre .0, own c)
 
 single-requires : tie.Need-single-requires Inv-loop μ-loop
-single-requires c κs = omega (arith, c .lowest2 .ensures, below (c .before .before))
+single-requires c κs = c .component-of .ensures .1
 
 soon-of-requires : tie.Need-soon-of-requires Inv-loop μ-loop
 soon-of-requires c κs =
-    let l = c .before .before .before in (l .before .before .before .before .pre .0, own l)
+    let l = c .before .before in (l .before .before .before .before .pre .0, own l)
 
 mul-end : tie.Need-mul-end Inv-loop μ-loop
-mul-end c = record { fits = omega (arith, turn (c .before .before .before .before) .below) }
+mul-end c = record { fits = omega (arith, turn (c .before .before .before) .below) }
 
 element-copy-out-end : tie.Need-element-copy-out-end Inv-loop μ-loop
-element-copy-out-end c = omega (arith, turn (c .before .before .before .before) .below)
+element-copy-out-end c = omega (arith, turn (c .before .before .before) .below)
 
 add-end : tie.Need-add-end Inv-loop μ-loop
 add-end c =
-    let l = c .before .before .before .before .before in
+    let l = c .before .before .before .before in
     let at = l .before .before .before .before in
     let i = l .before .lowest .result in
     record {
@@ -120,13 +114,13 @@ add-end c =
     }
 
 loop-less : tie.Need-loop-less Inv-loop μ-loop
-loop-less c = omega (arith, turn (c .before .before .before .before .before .before) .fewer)
+loop-less c = omega (arith, turn (c .before .before .before .before .before) .fewer)
 
 loop-again : tie.Need-loop-again Inv-loop μ-loop
 loop-again c =
     let soon = c .before .before in
     let single = soon .before in
-    let l = single .before .before .before in
+    let l = single .before .before in
     let at = l .before .before .before in
     let a = at .before .args in
     let i = l .before .lowest .result in
@@ -135,19 +129,19 @@ loop-again c =
     (single .single .result)
     (ap (λ (x : ℕ). x + durationAt (a .table .now) i) (soon .soon-of .ensures))
     (c .if1 .taken)
-    (single .single .ensures ∙ ap (λ (x : ℕ). 2 ^ x) (single .before .lowest2 .ensures))
+    (single .single .ensures ∙ ap (λ (x : ℕ). 2 ^ x) (single .before .component-of .ensures .0))
 
 union-requires : tie.Need-union-requires Inv-loop μ-loop
 union-requires c κs = search needs
 
 loop-less-2 : tie.Need-loop-less-2 Inv-loop μ-loop
-loop-less-2 c = omega (arith, turn (c .before .before .before .before .before .before .before .before) .fewer)
+loop-less-2 c = omega (arith, turn (c .before .before .before .before .before .before .before) .fewer)
 
 loop-again-2 : tie.Need-loop-again-2 Inv-loop μ-loop
 loop-again-2 c =
     let soon = c .before .before .before .before in
     let single = soon .before in
-    let l = single .before .before .before in
+    let l = single .before .before in
     let at = l .before .before .before in
     let a = at .before .args in
     let i = l .before .lowest .result in
@@ -155,15 +149,15 @@ loop-again-2 c =
     (c .union .result)
     (sym (ap (λ (x : ℕ). x + durationAt (a .table .now) i) (soon .soon-of .ensures)) ∙ c .before .if2 .taken)
     (c .union .ensures
-    ∙ ap (bitOr (at .loop .due)) (single .single .ensures ∙ ap (λ (x : ℕ). 2 ^ x) (single .before .lowest2 .ensures)))
+    ∙ ap (bitOr (at .loop .due)) (single .single .ensures ∙ ap (λ (x : ℕ). 2 ^ x) (single .before .component-of .ensures .0)))
 
 loop-less-3 : tie.Need-loop-less-3 Inv-loop μ-loop
-loop-less-3 c = omega (arith, turn (c .before .before .before .before .before .before .before) .fewer)
+loop-less-3 c = omega (arith, turn (c .before .before .before .before .before .before) .fewer)
 
 loop-again-3 : tie.Need-loop-again-3 Inv-loop μ-loop
 loop-again-3 c =
     let soon = c .before .before .before in
-    let l = soon .before .before .before .before in
+    let l = soon .before .before .before in
     let at = l .before .before .before in
     let a = at .before .args in
     let i = l .before .lowest .result in
@@ -189,10 +183,7 @@ first-stop-spec =
     loop-holds
     lowest-requires
     after-lowest-requires
-    add-lowest
-    mul-lowest
-    element-copy-out-lowest
-    lowest-requires-2
+    component-of-requires
     single-requires
     soon-of-requires
     mul-end

@@ -8,7 +8,6 @@ use Rattle.sets.specs.Sets.{most}
 use Rattle.instance.specs.Table.{actsOf, componentAt}
 use Rattle.profile.specs.Work.{freeAt}
 use Rattle.profile.proofs.Room.{others}
-use Rattle.steps.proofs.Loops.{own-below}
 use Rattle.steps.proofs.Ready.{running-among, free-tight, free-roomy}
 use Rattle.steps.proofs.is_free.Statement.{statement}
 use Rattle.steps.proofs.is_free.Tie as tie
@@ -16,9 +15,9 @@ use Rattle.steps.proofs.is_free.Reads as reads
 use Rattle.steps.proofs.is_free.Lts as lts
 use Rattle.sets.proofs.common.Reads as common-reads
 use Rattle.sets.proofs.contains.Reads as contains-reads
-use Rattle.sets.proofs.lowest.Reads as lowest-reads
 use Rattle.profile.proofs.free_of.Reads as free-of-reads
 use Rattle.profile.proofs.has_left.Reads as has-left-reads
+use Rattle.steps.proofs.component_of.Reads as component-of-reads
 use Rattle.steps.proofs.running.Reads as running-reads
 
 abbrev Entry : Type 0
@@ -26,8 +25,8 @@ Entry =
     lts.Start (
       contains-reads.Asked,
       contains-reads.Learnt,
-      lowest-reads.Asked,
-      lowest-reads.Learnt,
+      component-of-reads.Asked,
+      component-of-reads.Learnt,
       free-of-reads.Asked,
       free-of-reads.Learnt,
       running-reads.Asked,
@@ -47,37 +46,37 @@ own s = s .pre .0 .left (s .args .i) (s .pre .2)
 below : (s : Entry) → s .args .i < most
 below s = omega (arith, own s, s .pre .0 .laid .acts)
 
-add-component : tie.Need-add-component
-add-component c = record { fits = omega (arith, below c) }
-
-mul-component : tie.Need-mul-component
-mul-component c = record { fits = omega (arith, below c) }
-
-element-copy-out-component : tie.Need-element-copy-out-component
-element-copy-out-component c = omega (arith, below c)
-
 element-copy-out-contains : tie.Need-element-copy-out-contains
 element-copy-out-contains c = search needs
 
 contains-requires : tie.Need-contains-requires
-contains-requires c κs = below (c .before .before)
+contains-requires c κs = below (c .before)
 
-lowest-requires : tie.Need-lowest-requires
-lowest-requires c κs = search needs
+component-of-requires : tie.Need-component-of-requires
+component-of-requires c κs =
+    let s = c .before .before .before in (s .pre .0 .laid, omega (arith, own s))
 
 free-of-requires : tie.Need-free-of-requires
-free-of-requires c κs =
-    let s = c .before .before .before .before .before in
-    omega (arith, c .lowest .ensures, own-below (s .args .table .now) (s .pre .0 .laid) (s .args .i) (own s))
+free-of-requires c κs = omega (arith, c .component-of .ensures .1)
 
 returns : tie.Need-returns
 returns c =
     let freed = c .before in
-    let held = freed .before .before .before in
-    let a = held .before .before .before .args in
+    let own = freed .before in
+    let held = own .before .before in
+    let a = held .before .before .args in
     free-tight (a .table .now) (a .work .now) (a .line) (a .i) (held .contains .ensures)
-    (freed .before .before .if1 .taken)
-    (freed .free-of .ensures ∙ ap (freeAt (a .work .now)) (freed .before .lowest .ensures))
+    (own .before .if1 .taken)
+    (freed .free-of .ensures ∙ ap (freeAt (a .work .now)) (own .component-of .ensures .0))
+
+add-component : tie.Need-add-component
+add-component c = record { fits = omega (arith, below (c .before .before .before)) }
+
+mul-component : tie.Need-mul-component
+mul-component c = record { fits = omega (arith, below (c .before .before .before)) }
+
+element-copy-out-component : tie.Need-element-copy-out-component
+element-copy-out-component c = omega (arith, below (c .before .before .before))
 
 running-requires : tie.Need-running-requires
 running-requires c κs = search needs
@@ -98,10 +97,11 @@ returns-2 : tie.Need-returns-2
 returns-2 c =
     let shared = c .before in
     let runs = shared .before in
-    let held = runs .before .before in
-    let s = held .before .before .before in
+    let held = runs .before .before .before in
+    let s = held .before .before in
     let a = s .args in
-    free-roomy (a .table .now) (a .work .now) (a .line) (a .i) (held .contains .ensures) (runs .before .if1 .left)
+    free-roomy (a .table .now) (a .work .now) (a .line) (a .i) (held .contains .ensures)
+    (runs .before .before .if1 .left)
     (shared .common .ensures
     ∙ ap (λ (x : ℕ). bitAnd x (componentAt (a .table .now) (a .i))) (runs .running .ensures))
     (s .pre .0) (s .pre .1) (c .has-left .ensures)
@@ -110,14 +110,14 @@ pub is-free-spec : {M : Type 1} → statement M
 is-free-spec =
     tie.close
     (tie.spec
+    element-copy-out-contains
+    contains-requires
+    component-of-requires
+    free-of-requires
+    returns
     add-component
     mul-component
     element-copy-out-component
-    element-copy-out-contains
-    contains-requires
-    lowest-requires
-    free-of-requires
-    returns
     running-requires
     common-requires
     has-left-requires

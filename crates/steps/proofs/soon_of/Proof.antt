@@ -4,29 +4,17 @@ use mathlib.Core.Path.{ap, ap₂, _∙_}
 use Prim.Native.Nat.{max}
 use borrow.Author.Needs.{needs}
 use Rattle.profile.specs.Work.{freeAt}
-use Rattle.steps.proofs.Loops.{own-below}
 use Rattle.steps.proofs.soon_of.Statement.{statement}
 use Rattle.steps.proofs.soon_of.Tie as tie
 
 ready-of-requires : tie.Need-ready-of-requires
 ready-of-requires c κs = search needs
 
-add-lowest : tie.Need-add-lowest
-add-lowest c = search needs
-
-mul-lowest : tie.Need-mul-lowest
-mul-lowest c = search needs
-
-element-copy-out-lowest : tie.Need-element-copy-out-lowest
-element-copy-out-lowest c = search needs
-
-lowest-requires : tie.Need-lowest-requires
-lowest-requires c κs = search needs
+component-of-requires : tie.Need-component-of-requires
+component-of-requires c κs = search needs
 
 free-of-requires : tie.Need-free-of-requires
-free-of-requires c κs =
-    let at = c .before .before .before in
-    omega (arith, c .lowest .ensures, own-below (at .args .table .now) (at .pre .0) (at .args .i) (at .pre .1))
+free-of-requires c κs = omega (arith, c .component-of .ensures .1)
 
 later-requires : tie.Need-later-requires
 later-requires c κs = search needs
@@ -34,20 +22,12 @@ later-requires c κs = search needs
 returns : tie.Need-returns
 returns c =
     let free = c .before in
-    let at = free .before .before .before .before in
+    let own = free .before in
+    let at = own .before .before in
     c .later .ensures
-    ∙ ap₂ max (free .before .before .before .ready-of .ensures)
-    (free .free-of .ensures ∙ ap (freeAt (at .args .work .now)) (free .before .lowest .ensures))
+    ∙ ap₂ max (own .before .ready-of .ensures)
+    (free .free-of .ensures ∙ ap (freeAt (at .args .work .now)) (own .component-of .ensures .0))
 
 pub soon-of-spec : {M : Type 1} → statement M
 soon-of-spec =
-    tie.close
-    (tie.spec
-    ready-of-requires
-    add-lowest
-    mul-lowest
-    element-copy-out-lowest
-    lowest-requires
-    free-of-requires
-    later-requires
-    returns)
+    tie.close (tie.spec ready-of-requires component-of-requires free-of-requires later-requires returns)
