@@ -1,21 +1,31 @@
 -- LIST: the rows of the pairs in their order, from the front of the area with no gap. What stands behind them is as it
 -- was, and a refusal leaves the whole area as it was.
-use Rattle.std.specs.Prelude.{ℕ, List}
+use Rattle.std.specs.Prelude.{ℕ, suc, ◌*◌, Bool, true, false, List, ◌++◌, leb, length, drop}
 use Rattle.base.specs.Lists.{cells_of}
-use Rattle.plan.specs.Outcome.{Outcome, turned_back, placed_in}
+use Rattle.plan.specs.Outcome.{Outcome}
 use Rattle.plan.specs.Plan.{Plan}
+use Rattle.plan.specs.declared.Refusal.TheVariants.{OverCap, AreaTooShort}
 use Rattle.term.specs.Term.{Term}
-use Rattle.judge.specs.Judge.{judge}
-use Rattle.judge.specs.Call.{by_verdict, by_cap}
+use Rattle.judge.specs.Judge.{Verdict, accepts, refuses, judge}
 use Rattle.variant.specs.Pairs.{pairs, pair_count}
 use Rattle.answers.specs.declared.ListAnswer.{ListAnswer}
 use Rattle.answers.specs.declared.ListAnswer.TheVariants.{Listed, Refused}
 
-abbrev pub list_pairs : List ℕ → Plan → Term → Outcome ListAnswer
-list_pairs area p t = placed_in Refused (λ cells. Listed (pair_count p t)) (cells_of (pairs p t)) area
+-- A row is the variant and a start for each activity of the plan.
+abbrev pub cells_needed : Plan → Term → ℕ
+cells_needed p t = pair_count p t * suc (length p.activities)
 
-abbrev pub list_plan : ℕ → List ℕ → Plan → Term → Outcome ListAnswer
-list_plan cap area p t = by_cap (turned_back Refused area) (list_pairs area p t) (pair_count p t) cap
+-- By whether the cap allows the pairs, and whether the area holds their rows.
+abbrev pub list_within : Bool → Bool → Plan → Term → List ℕ → Outcome ListAnswer
+list_within false fits p t area = record { answer = Refused OverCap; area = area }
+list_within true false p t area = record { answer = Refused (AreaTooShort (cells_needed p t)); area = area }
+list_within true true p t area =
+    record { answer = Listed (pair_count p t); area = cells_of (pairs p t) ++ drop (cells_needed p t) area }
+
+abbrev pub list_by : Verdict → ℕ → List ℕ → Outcome ListAnswer
+list_by (accepts p t) cap area =
+    list_within (leb (pair_count p t) cap) (leb (cells_needed p t) (length area)) p t area
+list_by (refuses r) cap area = record { answer = Refused r; area = area }
 
 unfoldable pub list_of : List ℕ → ℕ → List ℕ → Outcome ListAnswer
-list_of s cap area = by_verdict (turned_back Refused area) (list_plan cap area) (judge s)
+list_of s cap area = list_by (judge s) cap area

@@ -1,10 +1,11 @@
 -- BEST: the first of the pairs that are shortest, with its makespan, the number of pairs and how many are shortest. No
 -- feasible session of any variant is shorter: what holds of it is on the page of theorems, `demand_3` and
 -- `first_shortest_row`.
-use Rattle.std.specs.Prelude.{ℕ, List, [], map, eqb, length, get_or, drop}
+use Rattle.std.specs.Prelude.{ℕ, Bool, true, false, List, [], map, eqb, leb, length, get_or, drop}
 use Rattle.base.specs.Lists.{keep, least_of}
 use Rattle.plan.specs.Plan.{Plan}
 use Rattle.plan.specs.declared.Refusal.{Refusal}
+use Rattle.plan.specs.declared.Refusal.TheVariants.{OverCap}
 use Rattle.timetable.specs.Mark.{no_starts}
 use Rattle.term.specs.Term.{Term}
 use Rattle.schedule.specs.Schedule.{Starts, makespan}
@@ -12,8 +13,7 @@ use Rattle.schedule.specs.Sessions.{starts_of}
 use Rattle.variant.specs.Project.{project_of, variant_at}
 use Rattle.variant.specs.Pairs.{pairs, pair_count}
 use Rattle.variant.specs.Timetable.{timetable_of}
-use Rattle.judge.specs.Judge.{judge}
-use Rattle.judge.specs.Call.{by_verdict, by_cap}
+use Rattle.judge.specs.Judge.{Verdict, accepts, refuses, judge}
 use Rattle.answers.specs.declared.Best.{Best}
 use Rattle.answers.specs.declared.BestAnswer.TheVariants.{Found, Refused}
 
@@ -51,8 +51,14 @@ best_row p t row =
 abbrev pub no_best : Refusal → Best
 no_best r = record { answer = Refused r; timetable = record { starts = no_starts } }
 
-abbrev pub best_plan : ℕ → Plan → Term → Best
-best_plan cap p t = by_cap no_best (best_row p t (first_shortest p t)) (pair_count p t) cap
+-- By whether the cap allows the pairs.
+abbrev pub best_within : Bool → Plan → Term → Best
+best_within true p t = best_row p t (first_shortest p t)
+best_within false p t = no_best OverCap
+
+abbrev pub best_by : Verdict → ℕ → Best
+best_by (accepts p t) cap = best_within (leb (pair_count p t) cap) p t
+best_by (refuses r) cap = no_best r
 
 unfoldable pub best_of : List ℕ → ℕ → Best
-best_of s cap = by_verdict no_best (best_plan cap) (judge s)
+best_of s cap = best_by (judge s) cap

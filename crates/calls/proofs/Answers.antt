@@ -2,36 +2,34 @@
 use Prim.Native.Nat.{ℕ, suc, ◌+◌, ◌*◌, ◌≤◌, ◌<◌}
 use native.Mathlib.Numerals.{add-one}
 use native.Mathlib.Omega.{arith}
+use mathlib.Core.Bool.{true, false}
 use mathlib.Core.Path.{◌≡◌, refl, sym, ap, ap₂, ◌∙◌}
 use mathlib.Core.List.{List, ◌++◌}
+use lib.Dec.{leb}
 use lib.ListN.{length, drop}
+use borrow.Author.Tests.{le-leb, lt-leb}
 use Rattle.base.specs.Lists.{cells_of}
 use Rattle.base.specs.Order.{sorted}
 use Rattle.sorting.specs.Rows.{rows_in}
 use Rattle.plan.specs.Limits.{latest_possible}
-use Rattle.plan.specs.Outcome.{Outcome, turned_back}
 use Rattle.plan.specs.Plan.{Plan, plan_of}
-use Rattle.plan.specs.declared.Refusal.{Refusal}
 use Rattle.plan.specs.declared.Refusal.TheVariants.{OverCap, AreaTooShort}
-use Rattle.plan.proofs.Outcome.{placed_whole, placed_short}
 use Rattle.term.specs.Term.{Term}
 use Rattle.term.specs.Variants.{variant_count}
 use Rattle.timetable.specs.Mark.{no_starts}
 use Rattle.tally.specs.Seen.{kept, no_tally}
 use Rattle.tally.specs.declared.Tally.{Tally}
 use Rattle.variant.specs.Pairs.{pairs, pair_count}
+use Rattle.judge.specs.Judge.{accepts}
 use Rattle.judge.specs.Campaign.{HoldsPlan}
 use Rattle.judge.specs.declared.Campaign.{Campaign}
 use Rattle.judge.proofs.Ranges.{acts_are}
-use Rattle.judge.proofs.Call.{cap_allows, cap_refuses}
-use Rattle.answers.specs.Listed.{list_pairs, list_plan}
-use Rattle.answers.specs.Shortest.{first_shortest, best_row, no_best, best_plan}
+use Rattle.answers.specs.Listed.{list_by, cells_needed}
+use Rattle.answers.specs.Shortest.{best_by}
 use Rattle.answers.specs.declared.Best.{Best}
 use Rattle.answers.specs.declared.BestAnswer.TheVariants.{Found}
 use Rattle.answers.specs.declared.BestAnswer.TheVariants as bests
-use Rattle.answers.specs.declared.ListAnswer.{ListAnswer}
 use Rattle.answers.specs.declared.ListAnswer.TheVariants as lists
-use Rattle.plan_exact.proofs.Meaning.{cells_needed, cells_needed_lem}
 use Rattle.sweep.specs.Swept.{Swept}
 use Rattle.calls.proofs.Swept.{allowed, too_many, all_rows_lem, kept_best}
 
@@ -43,13 +41,10 @@ module _ (c : Campaign) (t : Term) (holds : HoldsPlan c t) (cap : ℕ) where
   module _ (end : ℕ) (area : List ℕ) (r : Tally)
       (is : (left : List ℕ) × Swept c t cap (variant_count t) (kept (no_tally end) area) (kept r left)) where
     -- The count tells whether the cap allows the pairs, and is their number then.
-    pairs_allowed : r.count ≤ cap → pair_count p t ≡ r.count
+    pairs_allowed : r.count ≤ cap → (pair_count p t ≡ r.count) × (leb (pair_count p t) cap ≡ true)
     pairs_allowed = allowed c t holds cap (kept (no_tally end) area) (kept r is.0) refl is.1
 
-    pairs_few : r.count ≤ cap → pair_count p t ≤ cap
-    pairs_few l = omega (arith, pairs_allowed l)
-
-    pairs_refused : cap < r.count → cap < pair_count p t
+    pairs_refused : cap < r.count → leb (pair_count p t) cap ≡ false
     pairs_refused = too_many c t holds cap (kept (no_tally end) area) (kept r is.0) refl is.1
 
     -- LIST: the cells of a row, and those that the rows need.
@@ -57,26 +52,19 @@ module _ (c : Campaign) (t : Term) (holds : HoldsPlan c t) (cap : ℕ) where
     width_is = add-one c.tables.acts ∙ ap suc (sym (acts_are c.tables holds.ranged))
 
     needed_is : r.count ≤ cap → r.count * (c.tables.acts + 1) ≡ cells_needed p t
-    needed_is l = ap₂ ◌*◌ (sym (pairs_allowed l)) width_is
-
-    length_is : r.count ≤ cap → r.count * (c.tables.acts + 1) ≡ length (cells_of (pairs p t))
-    length_is l = needed_is l ∙ sym (cells_needed_lem p t holds.valid)
+    needed_is l = ap₂ ◌*◌ (sym (pairs_allowed l).0) width_is
 
     module _ (before : List ℕ) where
-      abbrev turned : Refusal → Outcome ListAnswer
-      turned = turned_back lists.Refused before
-
-      pub lists_refused : cap < r.count → turned OverCap ≡ list_plan cap before p t
-      lists_refused l = sym (cap_refuses turned (list_pairs before p t) (pair_count p t) cap (pairs_refused l))
+      pub lists_refused : cap < r.count
+          → record { answer = lists.Refused OverCap; area = before } ≡ list_by (accepts p t) cap before
+      lists_refused l = rw (pairs_refused l) refl
 
       pub lists_short : r.count ≤ cap → length before < r.count * (c.tables.acts + 1)
-          → turned (AreaTooShort (r.count * (c.tables.acts + 1))) ≡ list_plan cap before p t
+          → record { answer = lists.Refused (AreaTooShort (r.count * (c.tables.acts + 1))); area = before }
+          ≡ list_by (accepts p t) cap before
       lists_short l short =
-          ap (λ (n : ℕ). turned (AreaTooShort n)) (length_is l)
-          ∙ sym
-          (cap_allows turned (list_pairs before p t) (pair_count p t) cap (pairs_few l)
-          ∙ placed_short lists.Refused (λ cells. lists.Listed (pair_count p t)) (cells_of (pairs p t)) before
-          (omega (arith, length_is l)))
+          rw ((pairs_allowed l).1, lt-leb (cells_needed p t) (length before) (omega (arith, needed_is l)))
+          (ap (λ (n : ℕ). record { answer = lists.Refused (AreaTooShort n); area = before }) (needed_is l))
 
       -- The second sweep, with the area that is lent, and its rows sorted.
       pub lists_rows : r.count ≤ cap → r.count * (c.tables.acts + 1) ≤ length before → (last : Tally)
@@ -85,9 +73,9 @@ module _ (c : Campaign) (t : Term) (holds : HoldsPlan c t) (cap : ℕ) where
           → after
           ≡ cells_of (sorted (rows_in (c.tables.acts + 1) r.count found))
           ++ drop (r.count * (c.tables.acts + 1)) found
-          → record { answer = lists.Listed r.count; area = after } ≡ list_plan cap before p t
+          → record { answer = lists.Listed r.count; area = after } ≡ list_by (accepts p t) cap before
       lists_rows l room last found after swept sort =
-          let number : r.count ≡ pair_count p t = sym (pairs_allowed l) in
+          let number : r.count ≡ pair_count p t = sym (pairs_allowed l).0 in
           let done : after ≡ cells_of (pairs p t) ++ drop (cells_needed p t) before =
           sort
           ∙ ap₂ (λ (rows : List (List ℕ)) (n : ℕ). cells_of (sorted rows) ++ drop n found)
@@ -96,31 +84,22 @@ module _ (c : Campaign) (t : Term) (holds : HoldsPlan c t) (cap : ℕ) where
           ∙ all_rows_lem c t holds cap (kept (no_tally end) before) (kept last found) refl swept (omega arith)
           (omega (arith, needed_is l))
           in
-          let left : after ≡ cells_of (pairs p t) ++ drop (length (cells_of (pairs p t))) before =
-          done
-          ∙ ap (λ (n : ℕ). cells_of (pairs p t) ++ drop n before) (sym (cells_needed_lem p t holds.valid)) in
-          (λ i. record { answer = lists.Listed (number i); area = left i })
-          ∙ sym
-          (cap_allows turned (list_pairs before p t) (pair_count p t) cap (pairs_few l)
-          ∙ placed_whole lists.Refused (λ cells. lists.Listed (pair_count p t)) (cells_of (pairs p t)) before
-          (omega (arith, length_is l)))
+          rw ((pairs_allowed l).1, le-leb (cells_needed p t) (length before) (omega (arith, needed_is l)))
+          (λ i. record { answer = lists.Listed (number i); area = done i })
 
     -- BEST
-    abbrev first : Best
-    first = best_row p t (first_shortest p t)
-
     pub best_refused : cap < r.count → (b : Best) → b.answer ≡ bests.Refused OverCap
         → b.timetable.starts ≡ no_starts
-        → b ≡ best_plan cap p t
+        → b ≡ best_by (accepts p t) cap
     best_refused l b answer none =
-        (λ i. record { answer = answer i; timetable = record { starts = none i } })
-        ∙ sym (cap_refuses no_best first (pair_count p t) cap (pairs_refused l))
+        rw (pairs_refused l) (λ i. record { answer = answer i; timetable = record { starts = none i } })
 
     pub best_found : latest_possible < end → r.count ≤ cap → (b : Best)
         → b.answer ≡ Found r.best_variant r.best_end r.count r.ties
-        → b.timetable.starts ≡ r.best.starts → b ≡ best_plan cap p t
+        → b.timetable.starts ≡ r.best.starts → b ≡ best_by (accepts p t) cap
     best_found late l b answer timetable =
-        kept_best c t holds cap (kept (no_tally end) area) (kept r is.0) refl is.1 refl late (pairs_few l) b
-        (answer ∙ ap (λ (n : ℕ). Found r.best_variant r.best_end n r.ties) (sym (pairs_allowed l)))
-        timetable
-        ∙ sym (cap_allows no_best first (pair_count p t) cap (pairs_few l))
+        let few : pair_count p t ≤ cap = omega (arith, (pairs_allowed l).0) in
+        rw (pairs_allowed l).1
+        (kept_best c t holds cap (kept (no_tally end) area) (kept r is.0) refl is.1 refl late few b
+        (answer ∙ ap (λ (n : ℕ). Found r.best_variant r.best_end n r.ties) (sym (pairs_allowed l).0))
+        timetable)

@@ -11,7 +11,7 @@ use mathlib.Core.List.{Perm}
 use lib.Dec.{eqb, leb}
 use lib.ListN.{length, drop, replicate, length-map}
 use lib.Seq.{drop_at}
-use borrow.Author.Tests.{le-leb, lt-leb, leb-true, leb-false}
+use borrow.Author.Tests.{le-leb, lt-leb, leb-true}
 use Rattle.plan.specs.Limits.{latest_possible}
 use Rattle.plan.specs.Plan.{Plan, plan_of}
 use Rattle.term.specs.Term.{Term}
@@ -35,7 +35,7 @@ use Rattle.variant.specs.Pairs.{sessions_of, is_new, pairs, pair_count}
 use Rattle.judge.specs.Campaign.{HoldsPlan}
 use Rattle.judge.specs.declared.Campaign.{Campaign}
 use Rattle.judge.proofs.Ranges.{acts_are}
-use Rattle.plan_exact.proofs.Meaning.{cells_needed}
+use Rattle.answers.specs.Listed.{cells_needed}
 use Rattle.answers.specs.Shortest.{row_span, shortest_count, first_shortest, best_row}
 use Rattle.answers.specs.declared.Best.{Best}
 use Rattle.answers.specs.declared.BestAnswer.TheVariants.{Found}
@@ -157,13 +157,14 @@ module _ (c : Campaign) (t : Term) (holds : HoldsPlan c t) where
         ∙ ap (λ (n : ℕ). leb n cap) number
 
     -- The count tells whether the cap allows the pairs, and is their number then.
-    pub allowed : after.tally.count ≤ cap → pair_count p t ≡ after.tally.count
+    pub allowed : after.tally.count ≤ cap → (pair_count p t ≡ after.tally.count) × (leb (pair_count p t) cap ≡ true)
     allowed l =
-        let few = leb-true (pair_count p t) cap (sym tells ∙ le-leb after.tally.count cap l) in
-        sym (count_is ∙ count_within acts cap k es fresh (omega (arith, number, few)) ∙ number)
+        let yes : leb (pair_count p t) cap ≡ true = sym tells ∙ le-leb after.tally.count cap l in
+        let few : length es ≤ cap = omega (arith, number, leb-true (pair_count p t) cap yes) in
+        (sym (count_is ∙ count_within acts cap k es fresh few ∙ number), yes)
 
-    pub too_many : cap < after.tally.count → cap < pair_count p t
-    too_many l = leb-false (pair_count p t) cap (sym tells ∙ lt-leb after.tally.count cap l)
+    pub too_many : cap < after.tally.count → leb (pair_count p t) cap ≡ false
+    too_many l = sym tells ∙ lt-leb after.tally.count cap l
 
     -- An area that holds the rows is given them; sorted, they are the pairs.
     pub all_rows_lem : pair_count p t ≤ cap → cells_needed p t ≤ length k.area

@@ -3,9 +3,10 @@ ghost use Rattle.std.specs.Prelude.{◌≡◌};
 ghost use Rattle.plan.specs.Plan.{plan_of};
 ghost use Rattle.term.specs.Term.{Term};
 ghost use Rattle.term.specs.Variants.{variant_count};
+ghost use Rattle.judge.specs.Judge.{accepts};
 ghost use Rattle.judge.specs.Campaign.{HoldsPlan};
-ghost use Rattle.answers.specs.Listed.{list_plan, list_of};
-ghost use Rattle.answers.specs.Shortest.{best_plan, best_of};
+ghost use Rattle.answers.specs.Listed.{list_by, list_of};
+ghost use Rattle.answers.specs.Shortest.{best_by, best_of};
 ghost use Rattle.tally.specs.Seen.{kept, no_tally};
 ghost use Rattle.sweep.specs.Swept.{Swept};
 
@@ -39,7 +40,7 @@ fn listed(campaign: Campaign, cap: u32, area: &mut [u32]) -> ListAnswer
     requires { (t : Term) × HoldsPlan campaign t }
     ensures { (t : Term) → HoldsPlan campaign t
         → record { answer = result; area = area.new }
-        ≡ list_plan cap area.old (plan_of campaign.tables) t }
+        ≡ list_by (accepts (plan_of campaign.tables) t) cap area.old }
 {
     let mut no_room = [0u32; 1];
     let tally = tallied(campaign, NONE, cap, &mut no_room);
@@ -60,7 +61,7 @@ fn listed(campaign: Campaign, cap: u32, area: &mut [u32]) -> ListAnswer
 // BEST of an accepted plan: the latest end of an active session is its makespan.
 fn shortest(campaign: Campaign, cap: u32) -> Best
     requires { (t : Term) × HoldsPlan campaign t }
-    ensures { (t : Term) → HoldsPlan campaign t → result ≡ best_plan cap (plan_of campaign.tables) t }
+    ensures { (t : Term) → HoldsPlan campaign t → result ≡ best_by (accepts (plan_of campaign.tables) t) cap }
 {
     let mut no_room = [0u32; 1];
     let tally = tallied(campaign, NEVER, cap, &mut no_room);

@@ -1,6 +1,6 @@
--- What comes of a timetable, with the units counted at the starts alone: a load grows only where an activity starts.
+-- CHECK, with the units counted at the starts alone: a load grows only where an activity starts.
 use Prim.Native.Nat.{ℕ}
-use mathlib.Core.Bool.{Bool, true, cond, ◌&&◌}
+use mathlib.Core.Bool.{Bool, true, false, ◌&&◌}
 use mathlib.Core.List.{List}
 use mathlib.Core.Path.{◌≡◌, refl, ap}
 use borrow.Author.Tests.{leb-true, le-leb}
@@ -20,9 +20,9 @@ use Rattle.schedule.proofs.Growth.{starts_enough}
 use Rattle.variant.specs.Project.{project_of, variant_at}
 use Rattle.variant.specs.Timetable.{is_marked, is_session}
 use Rattle.judge.specs.Judge.{Verdict, accepts, refuses, judge}
-use Rattle.judge.specs.Call.{by_verdict, by_variant}
-use Rattle.inspect.specs.Answer.{Finding, session, none, find_plan, finding_of}
-use Rattle.inspect.specs.Answer as Found
+use Rattle.inspect.specs.Answer.{check_variant, check_by, check_of}
+use Rattle.inspect.specs.declared.CheckAnswer.{CheckAnswer}
+use Rattle.inspect.specs.declared.CheckAnswer.TheVariants.{Checked, Refused}
 
 module _ (P : Project) (S : Starts) where
   abbrev within_at : ℕ → Bool
@@ -69,30 +69,34 @@ module _ (P : Project) (S : Starts) where
       (λ e.
       both (and_left is_ordered within_at_starts e) (on_every_tick (and_right is_ordered within_at_starts e)))
 
--- The test of one timetable, and the finding by it.
+-- The test of one timetable, and the answer by it.
 abbrev is_kept : Plan → Term → List ℕ → Bool
 is_kept p w row =
     let P : Project = project_of p w in is_marked w row && (is_ordered P (starts_of row) && within_at_starts P (starts_of row))
 
-kept_same : (p : Plan) (w : Term) (row : List ℕ) → is_session p w row ≡ is_kept p w row
+abbrev test_variant : Bool → Plan → Term → ℕ → List ℕ → CheckAnswer
+test_variant true p t v row = Checked (is_kept p (variant_at t v) row)
+test_variant false p t v row = Refused NoSuchVariant
+
+abbrev test_verdict : Verdict → ℕ → List ℕ → CheckAnswer
+test_verdict (accepts p t) v row = test_variant (ltb v (variant_count t)) p t v row
+test_verdict (refuses r) v row = Refused r
+
+unfoldable pub check_model : List ℕ → ℕ → List ℕ → CheckAnswer
+check_model s v row = test_verdict (judge s) v row
+
+test_variant_lem : (p : Plan) (t : Term) (v : ℕ) (row : List ℕ) (b : Bool)
+    → check_variant b p t v row ≡ test_variant b p t v row
 unfolding is_session
-kept_same p w row = ap (is_marked w row &&◌) (feasible_same (project_of p w) (starts_of row))
-
-abbrev test_variant : List ℕ → Plan → Term → Finding
-test_variant row p w = cond (is_kept p w row) (session p w) none
-
-unfoldable pub finding_model : List ℕ → ℕ → List ℕ → Finding
-finding_model s v row = by_verdict Found.refuses (λ p t. by_variant Found.refuses (test_variant row p) t v) (judge s)
-
-test_verdict : (v : ℕ) (row : List ℕ) (o : Verdict)
-    → by_verdict Found.refuses (find_plan v row) o
-    ≡ by_verdict Found.refuses (λ p t. by_variant Found.refuses (test_variant row p) t v) o
-test_verdict v row (accepts p t) =
+test_variant_lem p t v row true =
     let w : Term = variant_at t v in
-    ap (λ (b : Bool). cond (ltb v (variant_count t)) (cond b (session p w) none) (Found.refuses NoSuchVariant))
-    (kept_same p w row)
-test_verdict v row (refuses r) = refl
+    ap (λ (b : Bool). Checked (is_marked w row && b)) (feasible_same (project_of p w) (starts_of row))
+test_variant_lem p t v row false = refl
 
-pub finding_is : (s : List ℕ) (v : ℕ) (row : List ℕ) → finding_of s v row ≡ finding_model s v row
-unfolding finding_of finding_model
-finding_is s v row = test_verdict v row (judge s)
+test_verdict_lem : (v : ℕ) (row : List ℕ) (o : Verdict) → check_by o v row ≡ test_verdict o v row
+test_verdict_lem v row (accepts p t) = test_variant_lem p t v row (ltb v (variant_count t))
+test_verdict_lem v row (refuses r) = refl
+
+pub check_is : (s : List ℕ) (v : ℕ) (row : List ℕ) → check_of s v row ≡ check_model s v row
+unfolding check_of check_model
+check_is s v row = test_verdict_lem v row (judge s)

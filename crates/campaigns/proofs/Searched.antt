@@ -1,16 +1,16 @@
 -- LIST, BEST and the makespans of a variant, as the scan computes them: the rows that it finds are the pairs, once they
 -- are sorted.
-use Prim.Native.Nat.{ℕ, ◌<◌}
+use Prim.Native.Nat.{ℕ, suc, ◌*◌, ◌<◌}
 use native.Mathlib.Decide.{ℕ_discrete}
 use native.Mathlib.Omega.{arith}
 use mathlib.Core.Bool.{Bool, true, false, not, false≢true}
 use mathlib.Core.List.Perm
 use mathlib.Core.List.Pairwise
-use mathlib.Core.List.{List, [], ◌∷◌, map, Mem, Memᴰ, List-discrete, Perm}
+use mathlib.Core.List.{List, [], ◌∷◌, ◌++◌, map, Mem, Memᴰ, List-discrete, Perm}
 use mathlib.Core.Path.{◌≡◌, refl, sym, ap, subst, ◌∙◌}
 use borrow.Author.Tests.{ltb-true}
-use lib.Dec.{eqb, ltb}
-use lib.ListN.{length, get_or}
+use lib.Dec.{eqb, leb, ltb}
+use lib.ListN.{length, get_or, drop}
 use Rattle.base.specs.Below.{every_below}
 use Rattle.base.specs.Lists.{keep, gather, is_one_of, least_of, cells_of}
 use Rattle.base.proofs.Below.{every_same}
@@ -18,8 +18,9 @@ use Rattle.base.proofs.Bools.{same_bool}
 use Rattle.base.proofs.Lists.{mem_found, one_of_is, one_of, keep_same, keep_perm, gather_perm}
 use Rattle.base.specs.Order.{sorted}
 use Rattle.base.proofs.Order.{before_not_after, sorted_is}
-use Rattle.plan.specs.Outcome.{Outcome, turned_back, placed_in}
+use Rattle.plan.specs.Outcome.{Outcome}
 use Rattle.plan.specs.Plan.{Plan}
+use Rattle.plan.specs.declared.Refusal.TheVariants.{OverCap, AreaTooShort}
 use Rattle.term.specs.Term.{Term}
 use Rattle.term.specs.Valid.{Valid}
 use Rattle.term.specs.Variants.{variant_count}
@@ -32,12 +33,11 @@ use Rattle.scan.specs.Components.{component_of}
 use Rattle.variant.specs.Project.{project_of, variant_at}
 use Rattle.variant.specs.Pairs.{sessions_of, is_new, pairs, pair_count}
 use Rattle.variant.specs.Timetable.{timetable_of}
-use Rattle.judge.specs.Call.{by_verdict, by_cap}
 use Rattle.judge.specs.Judge.{Verdict, accepts, refuses, judge}
 use Rattle.judge.proofs.Accepts.{accepted_valid}
-use Rattle.answers.specs.Listed.{list_plan, list_of}
+use Rattle.answers.specs.Listed.{list_within, list_by, list_of}
 use Rattle.answers.specs.Shortest.{row_variant, row_starts, row_span, shortest_pairs, shortest_count, first_shortest, no_best}
-use Rattle.answers.specs.Shortest.{best_plan, best_of}
+use Rattle.answers.specs.Shortest.{best_within, best_by, best_of}
 use Rattle.answers.specs.declared.Best.{Best}
 use Rattle.answers.specs.declared.BestAnswer.TheVariants.{Found}
 use Rattle.answers.specs.declared.ListAnswer.{ListAnswer}
@@ -106,53 +106,80 @@ found_is s p t e =
     let valid : Valid p t = (accepted_valid s p t e).0 in
     sym (rows_sorted p t (all_rows p t) (all_perm p t valid))
 
--- LIST, by the rows.
-abbrev listed : ℕ → List ℕ → List (List ℕ) → Outcome ListAnswer
-listed cap area rows =
-    by_cap (turned_back Refused area) (placed_in Refused (λ cells. Listed (length rows)) (cells_of rows) area) (length rows)
-    cap
+-- LIST, by rows of so many cells.
+abbrev list_rows : Bool → Bool → List (List ℕ) → ℕ → List ℕ → Outcome ListAnswer
+list_rows false fits rows width area = record { answer = Refused OverCap; area = area }
+list_rows true false rows width area = record { answer = Refused (AreaTooShort (length rows * width)); area = area }
+list_rows true true rows width area =
+    record { answer = Listed (length rows); area = cells_of rows ++ drop (length rows * width) area }
+
+abbrev listed : Plan → ℕ → List ℕ → List (List ℕ) → Outcome ListAnswer
+listed p cap area rows =
+    let width : ℕ = suc (length p.activities) in
+    list_rows (leb (length rows) cap) (leb (length rows * width) (length area)) rows width area
+
+abbrev list_verdict : Verdict → ℕ → List ℕ → Outcome ListAnswer
+list_verdict (accepts p t) cap area = listed p cap area (found p t)
+list_verdict (refuses r) cap area = record { answer = Refused r; area = area }
 
 unfoldable pub list_model : List ℕ → ℕ → List ℕ → Outcome ListAnswer
-list_model s cap area = by_verdict (turned_back Refused area) (λ p t. listed cap area (found p t)) (judge s)
+list_model s cap area = list_verdict (judge s) cap area
 
-list_verdict : (s : List ℕ) (cap : ℕ) (area : List ℕ) (o : Verdict) → judge s ≡ o
-    → by_verdict (turned_back Refused area) (list_plan cap area) o
-    ≡ by_verdict (turned_back Refused area) (λ p t. listed cap area (found p t)) o
+list_rows_lem : (a b : Bool) (p : Plan) (t : Term) (area : List ℕ)
+    → list_within a b p t area ≡ list_rows a b (pairs p t) (suc (length p.activities)) area
 unfolding pair_count
-list_verdict s cap area (accepts p t) e = ap (listed cap area) (found_is s p t e)
-list_verdict s cap area (refuses r) e = refl
+list_rows_lem false b p t area = refl
+list_rows_lem true false p t area = refl
+list_rows_lem true true p t area = refl
+
+list_verdict_lem : (s : List ℕ) (cap : ℕ) (area : List ℕ) (o : Verdict) → judge s ≡ o
+    → list_by o cap area ≡ list_verdict o cap area
+unfolding pair_count
+list_verdict_lem s cap area (accepts p t) e =
+    list_rows_lem (leb (length (pairs p t)) cap) (leb (length (pairs p t) * suc (length p.activities)) (length area))
+    p t area
+    ∙ ap (listed p cap area) (found_is s p t e)
+list_verdict_lem s cap area (refuses r) e = refl
 
 pub list_is : (s : List ℕ) (cap : ℕ) (area : List ℕ) → list_of s cap area ≡ list_model s cap area
 unfolding list_of list_model
-list_is s cap area = list_verdict s cap area (judge s) refl
+list_is s cap area = list_verdict_lem s cap area (judge s) refl
 
 -- BEST, by the rows.
 abbrev shortest_of : Plan → Term → List (List ℕ) → List (List ℕ)
 shortest_of p t rows = keep (λ row. eqb (row_span p t row) (least_of (map (row_span p t) rows))) rows
 
-abbrev best_rows : ℕ → Plan → Term → List (List ℕ) → Best
-best_rows cap p t rows =
+abbrev best_rows : Bool → Plan → Term → List (List ℕ) → Best
+best_rows true p t rows =
     let row : List ℕ = get_or (shortest_of p t rows) 0 [] in
-    by_cap no_best
-    (record {
+    record {
       answer = Found (row_variant row) (row_span p t row) (length rows) (length (shortest_of p t rows));
       timetable = record { starts = timetable_of p (row_starts row) };
-    })
-    (length rows)
-    cap
+    }
+best_rows false p t rows = no_best OverCap
+
+abbrev best_verdict : Verdict → ℕ → Best
+best_verdict (accepts p t) cap = best_rows (leb (length (found p t)) cap) p t (found p t)
+best_verdict (refuses r) cap = no_best r
 
 unfoldable pub best_model : List ℕ → ℕ → Best
-best_model s cap = by_verdict no_best (λ p t. best_rows cap p t (found p t)) (judge s)
+best_model s cap = best_verdict (judge s) cap
 
-best_verdict : (s : List ℕ) (cap : ℕ) (o : Verdict) → judge s ≡ o
-    → by_verdict no_best (best_plan cap) o ≡ by_verdict no_best (λ p t. best_rows cap p t (found p t)) o
+best_rows_lem : (a : Bool) (p : Plan) (t : Term) → best_within a p t ≡ best_rows a p t (pairs p t)
 unfolding pair_count shortest_count first_shortest shortest_pairs
-best_verdict s cap (accepts p t) e = ap (best_rows cap p t) (found_is s p t e)
-best_verdict s cap (refuses r) e = refl
+best_rows_lem true p t = refl
+best_rows_lem false p t = refl
+
+best_verdict_lem : (s : List ℕ) (cap : ℕ) (o : Verdict) → judge s ≡ o → best_by o cap ≡ best_verdict o cap
+unfolding pair_count
+best_verdict_lem s cap (accepts p t) e =
+    best_rows_lem (leb (length (pairs p t)) cap) p t
+    ∙ ap (λ (rows : List (List ℕ)). best_rows (leb (length rows) cap) p t rows) (found_is s p t e)
+best_verdict_lem s cap (refuses r) e = refl
 
 pub best_is : (s : List ℕ) (cap : ℕ) → best_of s cap ≡ best_model s cap
 unfolding best_of best_model
-best_is s cap = best_verdict s cap (judge s) refl
+best_is s cap = best_verdict_lem s cap (judge s) refl
 
 -- The makespans of variant v, and whether the file is accepted and has it.
 abbrev variant_rows : Plan → Term → ℕ → List (List ℕ)

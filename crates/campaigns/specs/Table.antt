@@ -8,7 +8,6 @@ use Rattle.base.specs.Lists.{cells_of}
 use Rattle.plan.specs.declared.Refusal.{Refusal}
 use Rattle.plan.specs.declared.Refusal.TheVariants.{Length, Form, Range, GroupOfOne, OverCapacity, Twice}
 use Rattle.plan.specs.declared.Refusal.TheVariants.{TooManyVariants, NoSuchVariant, OverCap, AreaTooShort}
-use Rattle.plan.specs.Limits.{bytes}
 use Rattle.plan.specs.Plan.{Plan}
 use Rattle.format.specs.Parse.{parse, holds}
 use Rattle.term.specs.Term.{Term, term_of}
@@ -17,23 +16,22 @@ use Rattle.schedule.specs.Schedule.{makespan}
 use Rattle.schedule.specs.Sessions.{sessions, starts_of}
 use Rattle.variant.specs.Project.{project_of, variant_at}
 use Rattle.judge.specs.Judge.{accepts, judge}
+use Rattle.answers.specs.Listed.{list_of}
+use Rattle.answers.specs.Shortest.{no_best, best_of}
 use Rattle.answers.specs.declared.BestAnswer.TheVariants.{Found}
-use Rattle.answers.specs.declared.BestAnswer.TheVariants as BestAnswers
 use Rattle.answers.specs.declared.ListAnswer.{ListAnswer}
 use Rattle.answers.specs.declared.ListAnswer.TheVariants.{Listed}
 use Rattle.answers.specs.declared.ListAnswer.TheVariants as ListAnswers
+use Rattle.read.specs.Answer.{read_of}
 use Rattle.read.specs.declared.ReadAnswer.{ReadAnswer}
 use Rattle.read.specs.declared.ReadAnswer.TheVariants.{Read, Refused}
 use Rattle.timetable.specs.Mark.{mark, places}
+use Rattle.write.specs.Answer.{write_of}
 use Rattle.write.specs.declared.WriteAnswer.TheVariants.{Written}
+use Rattle.inspect.specs.Answer.{check_of}
 use Rattle.inspect.specs.declared.CheckAnswer.{CheckAnswer}
 use Rattle.inspect.specs.declared.CheckAnswer.TheVariants.{Checked}
 use Rattle.inspect.specs.declared.CheckAnswer.TheVariants as CheckAnswers
-use Rattle.sheet.specs.declared.SheetAnswer.{SheetAnswer}
-use Rattle.sheet.specs.declared.SheetAnswer.TheVariants.{Drawn, NotDrawable}
-use Rattle.sheet.specs.declared.SheetAnswer.TheVariants as SheetAnswers
-use Rattle.vialbluff.specs.Cells.{read_cells, write_cells, check_cells, sheet_cells, list_cells, best_cells}
-use Rattle.vialbluff.specs.Calls.{Call, read, write, check, sheet, list, best, Left, said, left_of}
 
 -- The bytes of a text whose lines are shown with `/` (47): each line is ended by byte 10.
 abbrev pub file : String → List ℕ
@@ -51,50 +49,25 @@ timetable starts = starts ++ replicate (places - length starts) mark
 abbrev pub absent : ℕ
 absent = mark
 
--- An area of cells that are all 7.
+-- An area of cells that are all 7; WRITE is lent 160 of them.
 abbrev pub sevens : ℕ → List ℕ
 sevens n = replicate n 7
 
--- A line of a sheet, of which the first bytes are shown; the cells behind them are empty.
-abbrev pub line : String → List ℕ
-line text = bytes text ++ replicate (67 - length (bytes text)) 46 ++ 10 ∷ []
+abbrev pub lent : List ℕ
+lent = sevens 160
 
 pub data Row : Type 0 where
-  -- a call, its file, what it is lent, and what it leaves
-  leaves : Call → List ℕ → List ℕ → Left → Row
+  reads : List ℕ → ReadAnswer → Row
   -- V, also where it is over the limit
   has_variants : List ℕ → ℕ → Row
-  -- the makespans of the active sessions of a variant
+  writes : List ℕ → ℕ → List ℕ → Row
+  checks : List ℕ → ℕ → List ℕ → CheckAnswer → Row
+  -- LIST into an area of so many cells: the answer, and the rows from the front
+  lists : List ℕ → ℕ → ℕ → ListAnswer → List (List ℕ) → Row
   spans : List ℕ → ℕ → List ℕ → Row
-
--- Cells or bytes at the front of an area of sevens.
-abbrev pub at_front : List ℕ → ℕ → List ℕ
-at_front cells n = cells ++ drop (length cells) (sevens n)
-
-abbrev pub reads : List ℕ → ReadAnswer → Row
-reads s answer = leaves read s [] (said (read_cells answer) [])
-
-abbrev pub writes : List ℕ → ℕ → List ℕ → Row
-writes s v bytes = leaves (write v) s (sevens 160) (said (write_cells (Written (length bytes))) (at_front bytes 160))
-
-abbrev pub checks : List ℕ → ℕ → List ℕ → CheckAnswer → Row
-checks s v starts answer = leaves (check v starts) s [] (said (check_cells answer) [])
-
--- SHEET into an area of so many bytes: the answer, and the sheet.
-abbrev pub draws : List ℕ → ℕ → List ℕ → ℕ → SheetAnswer → List ℕ → Row
-draws s v starts n answer bytes = leaves (sheet v starts) s (sevens n) (said (sheet_cells answer) (at_front bytes n))
-
--- LIST into an area of so many cells: the answer, and the rows from the front.
-abbrev pub lists : List ℕ → ℕ → ℕ → ListAnswer → List (List ℕ) → Row
-lists s cap n answer rows = leaves (list cap) s (sevens n) (said (list_cells answer) (at_front (cells_of rows) n))
-
--- BEST: its variant, its makespan, the number of rows, how many of them are shortest, and the starts.
-abbrev pub finds : List ℕ → ℕ → ℕ → ℕ → ℕ → ℕ → List ℕ → Row
-finds s cap v span count shortest starts =
-    leaves (best cap) s (sevens places) (said (best_cells (Found v span count shortest)) (timetable starts))
-
-abbrev pub stops : List ℕ → ℕ → Refusal → Row
-stops s cap r = leaves (best cap) s (sevens places) (said (best_cells (BestAnswers.Refused r)) (sevens places))
+  -- BEST: its variant, its makespan, the number of rows, how many of them are shortest, and the starts
+  finds : List ℕ → ℕ → ℕ → ℕ → ℕ → ℕ → List ℕ → Row
+  stops : List ℕ → ℕ → Refusal → Row
 
 -- The file's lines say a plan whose nodes are one whole term with n variants, be they too many or not.
 pub record HasVariants (s : List ℕ) (n : ℕ) : Type 0 where
@@ -117,18 +90,23 @@ pub record Spans (s : List ℕ) (v : ℕ) (makespans : List ℕ) : Type 0 where
 
 -- What a row says of the definitions.
 abbrev pub Holds : Row → Type 0
-Holds (leaves call s area left) = left_of call s area ≡ left
+Holds (reads s answer) = read_of s ≡ answer
 Holds (has_variants s n) = HasVariants s n
+Holds (writes s v bytes) =
+    write_of s v lent ≡ record { answer = Written (length bytes); area = bytes ++ drop (length bytes) lent }
+Holds (checks s v starts answer) = check_of s v starts ≡ answer
+Holds (lists s cap cells answer rows) =
+    list_of s cap (sevens cells)
+    ≡ record { answer = answer; area = cells_of rows ++ drop (length (cells_of rows)) (sevens cells) }
 Holds (spans s v makespans) = Spans s v makespans
+Holds (finds s cap v span count shortest starts) =
+    best_of s cap ≡ record { answer = Found v span count shortest; timetable = record { starts = timetable starts } }
+Holds (stops s cap r) = best_of s cap ≡ no_best r
 
 abbrev pub dot_test : List ℕ
 dot_test =
     file "plan=1/res=3/acts=5/act=0,4/act=1,2/act=1,3/act=2,5/act=1,6"
     ++ file "nodes=9/node=s,2/node=x,2/node=a,0/node=p,2/node=a,1/node=a,2/node=p,2/node=a,3/node=a,4"
-
--- The sheet of its shortest session.
-abbrev pub dot_sheet : List ℕ
-dot_sheet = file "00001" ++ (line "00 AAAA" ++ (line "01 ....EEEEEE" ++ line "02 ....DDDDD"))
 
 abbrev pub twice_under_x : List ℕ
 twice_under_x = file "plan=1/res=1/acts=1/act=0,1/nodes=3/node=x,2/node=a,0/node=a,0"
@@ -181,10 +159,6 @@ long_in_sequence = file "plan=1/res=1/acts=2/act=0,20000/act=0,20000/nodes=3/nod
 
 abbrev pub long_side_by_side : List ℕ
 long_side_by_side = file "plan=1/res=1/acts=2/act=0,20000/act=0,20000/nodes=3/node=p,2/node=a,0/node=a,1"
-
--- Two in sequence, of 64 ticks in all.
-abbrev pub sixty_four_ticks : List ℕ
-sixty_four_ticks = file "plan=1/res=1/acts=2/act=0,40/act=0,24/nodes=3/node=s,2/node=a,0/node=a,1"
 
 -- Edition 2: two arms and a camera; two arms side by side; an activity that holds an arm and the camera; one that needs
 -- both arms; three units that are shared three ways; an activity without a resource.
@@ -486,29 +460,6 @@ table =
     ∷ checks two_arms 0 (timetable (4294967294 ∷ 4294967294 ∷ 0 ∷ 0 ∷ [])) (Checked true)
     ∷ checks two_arms 0 (timetable (4294967294 ∷ 4294967294 ∷ 4294967292 ∷ 0 ∷ [])) (Checked true)
     ∷ checks two_arms 0 (timetable (4294967294 ∷ 4294967294 ∷ 4294967293 ∷ 0 ∷ [])) (Checked false)
-    -- The sheet of the dot test's shortest session: areas on both sides of its 210 bytes. No session of the variant is
-    -- not drawable, whatever the area; there is no third variant.
-    ∷ draws dot_test 0 (timetable (0 ∷ absent ∷ absent ∷ 4 ∷ 4 ∷ [])) 212 (Drawn 210) dot_sheet
-    ∷ draws dot_test 0 (timetable (0 ∷ absent ∷ absent ∷ 4 ∷ 4 ∷ [])) 210 (Drawn 210) dot_sheet
-    ∷ draws dot_test 0 (timetable (0 ∷ absent ∷ absent ∷ 4 ∷ 4 ∷ [])) 209 (SheetAnswers.Refused (AreaTooShort 210)) []
-    ∷ draws dot_test 0 (timetable (0 ∷ absent ∷ absent ∷ 4 ∷ 3 ∷ [])) 210 NotDrawable []
-    ∷ draws dot_test 0 (timetable (0 ∷ absent ∷ absent ∷ 4 ∷ 3 ∷ [])) 0 NotDrawable []
-    ∷ draws dot_test 2 (timetable (0 ∷ absent ∷ absent ∷ 4 ∷ 4 ∷ [])) 0 (SheetAnswers.Refused NoSuchVariant) []
-    -- 64 ticks are a cell each; of 65 a cell has two, and the last is touched by one tick alone. Then the latest end of
-    -- which c has five digits, and one tick more.
-    ∷ draws sixty_four_ticks 0 (timetable (0 ∷ 40 ∷ [])) 74 (Drawn 74)
-    (file "00001" ++ line "00 AAAAAAAAAAAAAAAAAAAAAAAAAAAAAAAAAAAAAAAABBBBBBBBBBBBBBBBBBBBBBBB")
-    ∷ draws sixty_four_ticks 0 (timetable (0 ∷ 41 ∷ [])) 74 (Drawn 74)
-    (file "00002" ++ line "00 AAAAAAAAAAAAAAAAAAAABBBBBBBBBBBBB")
-    ∷ draws long_side_by_side 0 (timetable (0 ∷ 6379936 ∷ [])) 75 (Drawn 74)
-    (file "99999" ++ line "00 A..............................................................B")
-    ∷ draws long_side_by_side 0 (timetable (0 ∷ 6379937 ∷ [])) 75 NotDrawable []
-    -- An end past 2^32 is not early.
-    ∷ draws long_side_by_side 0 (timetable (4294967294 ∷ 0 ∷ [])) 74 NotDrawable []
-    -- Several units: two activities on one resource, one that holds two units, one that holds no resource.
-    ∷ draws two_arms 0 (timetable (0 ∷ 0 ∷ 2 ∷ 4 ∷ [])) 74 (Drawn 74) (file "00001" ++ line "00 ###CD")
-    ∷ draws both_arms 0 (timetable (0 ∷ 3 ∷ 3 ∷ [])) 74 (Drawn 74) (file "00001" ++ line "00 AAA##CC")
-    ∷ draws without_resource 0 (timetable (0 ∷ 2 ∷ 0 ∷ [])) 74 (Drawn 74) (file "00001" ++ line "00 AABBB")
     -- The dot test: variant 1 has two sessions of makespan 11, variant 0 one of 10. Caps on both sides of their number.
     ∷ spans dot_test 0 (10 ∷ [])
     ∷ spans dot_test 1 (11 ∷ 11 ∷ [])

@@ -26,7 +26,7 @@ use Rattle.steps.specs.declared.Line.{Line}
 use Rattle.steps.proofs.Own.{tight_with}
 use Rattle.steps.proofs.Given.{has_is, has_of, scannable}
 use Rattle.steps.proofs.Free.{alone_fits, tight_alone}
-use Rattle.steps.proofs.Sets.{left_is, left_of_lem, loose_shown}
+use Rattle.steps.proofs.Sets.{left_is, left_of, loose_shown}
 use Rattle.unbranched.specs.Position.{Position}
 use Rattle.completion.specs.Rest.{Uncontested}
 use Rattle.completion.proofs.Apart.{room_less, room_more}
@@ -73,7 +73,7 @@ module _ (t : List ℕ) (given : Instance t) (l : Line) (w : List ℕ) (d : Diag
 
   -- What was frozen since was left.
   since : (k : ℕ) → Has (project_in t) k → d.frozen k ≡ false → has l.left k ≡ true
-  since k h z = left_of_lem t given l w d at.shows d.tick at.stands k (has_is t given k h) z
+  since k h z = left_of t given l w d at.shows d.tick at.stands k (has_is t given k h) z
 
   less : (i x : ℕ) → Room (project_in t) F S i x → Room (project_in t) d.frozen d.starts i x
   less i x = room_less (project_in t) d.frozen F d.starts S more beyond.agrees i x

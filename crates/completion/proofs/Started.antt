@@ -20,7 +20,7 @@ use Rattle.steps.specs.declared.Line.{Line}
 use Rattle.steps.proofs.Given.{has_is, has_of}
 use Rattle.steps.proofs.Loops.{common_low}
 use Rattle.steps.proofs.Ready.{frozen_below}
-use Rattle.steps.proofs.Sets.{loose_is, loose_of, waiting_is, waiting_of, left_is, left_of_lem, loose_shown}
+use Rattle.steps.proofs.Sets.{loose_is, loose_of, waiting_is, waiting_of, left_is, left_of, loose_shown}
 use Rattle.unbranched.specs.Position.{Position, Beside, bound_of}
 use Rattle.completion.specs.Rest.{Readies}
 use Rattle.completion.proofs.Latest.{latest_same, latest_of_lem, latest_least}
@@ -132,7 +132,7 @@ module _ (t : List ℕ) (given : Instance t) (l : Line) (w : List ℕ) (d : Diag
             (λ n.
             true_not_false
             (meet_of (preds_at t j) l.left k before
-            (left_of_lem t given l w d at.shows d.tick at.stands k (has_is t given k h) n))
+            (left_of t given l w d at.shows d.tick at.stands k (has_is t given k h) n))
             clear);
       }
 
@@ -140,7 +140,7 @@ module _ (t : List ℕ) (given : Instance t) (l : Line) (w : List ℕ) (d : Diag
   unfolding project_in
   all_open j o =
       let left : has l.left j ≡ true =
-      left_of_lem t given l w d at.shows d.tick at.stands j (has_is t given j o.has) o.waits in
+      left_of t given l w d at.shows d.tick at.stands j (has_is t given j o.has) o.waits in
       by_bool (has l.placed j) (λ y. ap (◌|| has first j) (loose_of l j y left))
       (λ off.
       ap (has (loose_in l) j ||◌)

@@ -13,12 +13,12 @@ use Rattle.plan.specs.declared.Tables.{Tables}
 use Rattle.sets.specs.Sets.{has}
 use Rattle.term.specs.Term.{Term}
 use Rattle.term.specs.Variants.{activities, member}
-use Rattle.base.specs.Below.{sum_below, max_below}
+use Rattle.base.specs.Below.{sum_below}
 use Rattle.schedule.specs.Project.{Project}
-use Rattle.schedule.specs.Schedule.{Starts, end_of, runs, load, latest_end, feasible}
+use Rattle.schedule.specs.Schedule.{Starts, end_of, load, feasible}
 use Rattle.schedule.specs.Sessions.{starts_of}
 use Rattle.base.proofs.Bools.{true_not_false, same_bool, both, and_left, and_right}
-use Rattle.base.proofs.Below.{implies_elim, implies_intro, every_at, every_of, every_same, sum_eq, max_eq}
+use Rattle.base.proofs.Below.{implies_elim, implies_intro, every_at, every_of, every_same, sum_eq}
 use Rattle.schedule.proofs.Load.{Has, holds}
 use Rattle.schedule.proofs.Reflect.{Feasible, feasible_is, feasible_of}
 use Rattle.schedule.proofs.Growth.{starts_enough}
@@ -33,41 +33,8 @@ use Rattle.variant.proofs.Instance.{has_of, has_below}
 use Rattle.variant.proofs.Tables.{resources_are, capacity_in, duration_in, units_in}
 use Rattle.judge.specs.Campaign.{Ranged}
 use Rattle.judge.proofs.Ranges.{acts_are}
-use Rattle.feasibility.specs.Model.{mark_right, marks_right, ends_by, ends_before, after_all, order_kept}
-use Rattle.feasibility.specs.Model.{runs_between, runs_at, latest_in, held_at, within_at, within_all, is_right}
-use Rattle.feasibility.proofs.Right.{ltb_next}
-
--- Who runs, and the latest end: of a variant only who is present has to be known.
-module _ (t : Tables) (ranged : Ranged t) (w : Term) (present : ℕ)
-    (members : (i : ℕ) → has present i ≡ member i (activities w)) (starts : List ℕ) where
-  abbrev project : Project
-  project = project_of (plan_of t) w
-
-  abbrev start : Starts
-  start = starts_of starts
-
-  pub between_same : (from until i : ℕ) → i < t.acts
-      → runs_between t.duration present starts from until i
-      ≡ (project.present i && ltb (start i) until && ltb from (end_of project start i))
-  unfolding project_of
-  between_same from until i l =
-      let lasts = sym (duration_in t ranged.sized ranged.acts i l) in
-      λ k. members i k && ltb (start i) until && ltb from (start i + lasts k)
-
-  pub runs_same : (tick i : ℕ) → i < t.acts → runs_at t.duration present starts tick i ≡ runs project start tick i
-  runs_same tick i l =
-      between_same tick (tick + 1) i l
-      ∙ ap (λ (b : Bool). project.present i && b && ltb tick (end_of project start i)) (ltb_next (start i) tick)
-
-  pub latest_same : latest_in t.acts t.duration present starts ≡ latest_end project start
-  unfolding latest_in latest_end project_of
-  latest_same =
-      max_eq t.acts (λ i. cond (has present i) (start i + get_or t.duration i 0) 0)
-      (λ i. cond (project.present i) (end_of project start i) 0)
-      (λ i b.
-      let lasts = sym (duration_in t ranged.sized ranged.acts i b) in
-      λ k. cond (members i k) (start i + lasts k) 0)
-      ∙ ap (λ (n : ℕ). max_below n (λ i. cond (project.present i) (end_of project start i) 0)) (sym (acts_are t ranged))
+use Rattle.feasibility.specs.Model.{mark_right, marks_right, ends_by, ends_before, after_all, order_kept, runs_at}
+use Rattle.feasibility.specs.Model.{held_at, within_at, within_all, is_right}
 
 module _ (t : Tables) (ranged : Ranged t) (w : Term) (x : Variant) (held : OrderOf w x.present x.preds)
     (starts : List ℕ) where
@@ -143,8 +110,9 @@ module _ (t : Tables) (ranged : Ranged t) (w : Term) (x : Variant) (held : Order
       (λ i. cond (runs_at t.duration x.present starts tick i) (get_or t.units (most_resources * i + r) 0) 0)
       (holds Q S tick r)
       (λ i b.
+      let lasts = sym (duration_in t ranged.sized ranged.acts i b) in
       let takes = sym (units_in t ranged.sized ranged.acts i b r l) in
-      λ k. cond (runs_same t ranged w x.present held.members starts tick i b k) (takes k) 0)
+      λ k. cond (held.members i k && leb (S i) tick && ltb tick (S i + lasts k)) (takes k) 0)
       ∙ ap (λ (n : ℕ). sum_below n (holds Q S tick r)) (sym (acts_are t ranged))
 
   room_same : (tick r : ℕ) → r < t.resources

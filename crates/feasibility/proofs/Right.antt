@@ -1,15 +1,12 @@
 -- The steps of the test, free of the code: what each branch of a function shows of its answer.
-use Prim.Native.Nat.{ℕ, ◌+◌, ◌≤◌, ◌<◌, max}
+use Prim.Native.Nat.{ℕ, ◌+◌, ◌≤◌, ◌<◌}
 use mathlib.Core.Bool.{Bool, true, false, not, beq, ◌&&◌}
-use mathlib.Core.Logic.{by_cases}
-use mathlib.Core.Path.{◌≡◌, refl, sym, ap, ap₂, ◌∙◌}
-use native.Mathlib.Decide.{dec_le}
+use mathlib.Core.Path.{◌≡◌, refl, ap, ap₂, ◌∙◌}
 use native.Mathlib.Nat.{not-suc-le-zero, le_antisymm}
 use native.Mathlib.Numerals.{add-one}
-use native.Mathlib.Omega.{arith}
-use borrow.Author.Tests.{le-leb, lt-leb, lt-ltb, le-ltb}
+use borrow.Author.Tests.{leb-true, leb-false, le-leb, lt-leb, lt-ltb, le-ltb}
 use lib.Dec.{leb, ltb}
-use Rattle.base.specs.Below.{every_below, sum_below, max_below}
+use Rattle.base.specs.Below.{every_below, sum_below}
 use Rattle.base.proofs.Bools.{by_bool, true_not_false, both}
 use Rattle.base.proofs.Below.{every_at, every_of}
 
@@ -41,26 +38,6 @@ module _ (f : ℕ → ℕ) where
   pub sum_end : (n i : ℕ) → i ≤ n → n ≤ i → sum_below i f ≡ sum_below n f
   sum_end n i l m = ap (λ k. sum_below k f) (le_antisymm l m)
 
--- The same for the largest.
-module _ (f : ℕ → ℕ) where
-  pub max_none : 0 ≡ max_below 0 f
-  unfolding max_below
-  max_none = refl
-
-  pub max_more : (i so_far next m : ℕ) → so_far ≡ max_below i f → next ≡ f i → m ≡ max so_far next
-      → m ≡ max_below (i + 1) f
-  unfolding max_below
-  max_more i so_far next m e h k = rw add-one (k ∙ ap₂ max e h)
-
-  pub max_end : (n i : ℕ) → i ≤ n → n ≤ i → max_below i f ≡ max_below n f
-  max_end n i l m = ap (λ k. max_below k f) (le_antisymm l m)
-
--- Before the next tick is by this one.
-pub ltb_next : (start tick : ℕ) → ltb start (tick + 1) ≡ leb start tick
-ltb_next start tick =
-    by_cases (dec_le start tick) (λ l. lt-ltb start (tick + 1) (omega arith) ∙ sym (le-leb start tick l))
-    (λ l. le-ltb start (tick + 1) (omega arith) ∙ sym (lt-leb start tick (omega arith)))
-
 pub not_marked : (marked there : Bool) → there ≡ true → not marked ≡ beq marked (not there)
 not_marked true there h = rw h
 not_marked false there h = rw h
@@ -69,12 +46,23 @@ pub is_marked_lem : (marked there : Bool) → there ≡ false → marked ≡ beq
 is_marked_lem true there h = rw h
 is_marked_lem false there h = rw h
 
--- Two tests, one after another.
-pub one_fails : (a b : Bool) → a ≡ false → false ≡ (a && b)
-one_fails a b e = rw e
+-- Whether an activity runs on a tick: it is absent, has not started, or runs unless it is over.
+module _ (there : Bool) (start duration tick : ℕ) where
+  abbrev runs : Bool
+  runs = there && leb start tick && ltb tick (start + duration)
 
-pub other_says : (a b r : Bool) → a ≡ true → r ≡ b → r ≡ (a && b)
-other_says a b r e h = rw e h
+  pub runs_absent : there ≡ false → false ≡ runs
+  runs_absent h = rw h
+
+  pub runs_later : there ≡ true → tick < start → false ≡ runs
+  runs_later h l = rw (h, lt-leb start tick l)
+
+  pub runs_or_over : (over : Bool) → there ≡ true → start ≤ tick → over ≡ leb (start + duration) tick → not over ≡ runs
+  runs_or_over over h l e =
+      rw (h, le-leb start tick l, e)
+      (by_bool (leb (start + duration) tick)
+      (λ y. rw (y, le-ltb tick (start + duration) (leb-true (start + duration) tick y)))
+      (λ n. rw (n, lt-ltb tick (start + duration) (leb-false (start + duration) tick n))))
 
 -- Three tests, one after another.
 pub first_fails : (a b c : Bool) → a ≡ false → false ≡ (a && b && c)

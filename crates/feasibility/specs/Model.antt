@@ -4,7 +4,7 @@ use Rattle.std.specs.Bool.{beq}
 use Rattle.plan.specs.Limits.{most_resources}
 use Rattle.plan.specs.declared.Tables.{Tables}
 use Rattle.sets.specs.Sets.{has}
-use Rattle.base.specs.Below.{every_below, sum_below, max_below, ◌implies◌}
+use Rattle.base.specs.Below.{every_below, sum_below, ◌implies◌}
 use Rattle.timetable.specs.Mark.{mark, places}
 use Rattle.variant.specs.declared.Variant.{Variant}
 
@@ -28,18 +28,10 @@ after_all acts duration before starts j = every_below acts λ i. ends_before dur
 unfoldable pub order_kept : ℕ → List ℕ → List ℕ → List ℕ → Bool
 order_kept acts duration preds starts = every_below acts λ j. after_all acts duration (get_or preds j 0) starts j
 
--- i is present and runs on some tick from `from` on and before `until`; on one tick.
-abbrev pub runs_between : List ℕ → ℕ → List ℕ → ℕ → ℕ → ℕ → Bool
-runs_between duration present starts from until i =
-    has present i && ltb (get_or starts i 0) until && ltb from (get_or starts i 0 + get_or duration i 0)
-
+-- i is present and runs on a tick.
 abbrev pub runs_at : List ℕ → ℕ → List ℕ → ℕ → ℕ → Bool
-runs_at duration present starts tick i = runs_between duration present starts tick (tick + 1) i
-
--- The latest end of what is present.
-unfoldable pub latest_in : ℕ → List ℕ → ℕ → List ℕ → ℕ
-latest_in acts duration present starts =
-    max_below acts λ i. cond (has present i) (get_or starts i 0 + get_or duration i 0) 0
+runs_at duration present starts tick i =
+    has present i && leb (get_or starts i 0) tick && ltb tick (get_or starts i 0 + get_or duration i 0)
 
 -- The units of resource r that are held on a tick, and whether they are within the capacity of each resource.
 unfoldable pub held_at : ℕ → List ℕ → List ℕ → ℕ → List ℕ → ℕ → ℕ → ℕ

@@ -1,14 +1,13 @@
 // Is a timetable a feasible session of a variant?
-ghost use Rattle.std.specs.Prelude.{◌≡◌, cond, ◌&&◌, ◌+◌, ◌^◌, ◌<◌, ◌≤◌, max, leb, ltb};
+ghost use Rattle.std.specs.Prelude.{◌≡◌, cond, ◌+◌, ◌<◌, ◌≤◌, leb};
 ghost use Rattle.plan.specs.Limits.{most_resources, most_acts};
 ghost use Rattle.plan.specs.Plan.{plan_of};
-ghost use Rattle.sets.specs.Passing.{Passing};
 ghost use Rattle.term.specs.Term.{Term};
 ghost use Rattle.variant.specs.Timetable.{is_session};
 ghost use Rattle.variant.specs.Tables.{OrderOf};
 ghost use Rattle.judge.specs.Campaign.{Ranged};
 ghost use Rattle.feasibility.specs.Model.{mark_right, marks_right, ends_by, ends_before, after_all, order_kept};
-ghost use Rattle.feasibility.specs.Model.{runs_between, held_at, latest_in, within_at, within_all};
+ghost use Rattle.feasibility.specs.Model.{runs_at, held_at, within_at, within_all};
 
 use plan::{MOST_ACTS, MOST_RESOURCES, Tables, UNIT_CELLS};
 use timetable::Timetable;
@@ -109,32 +108,24 @@ fn in_order(
     true
 }
 
-// What starts then and lasts so long runs on some tick from `from` on and before `until`.
-fn meets(start: u32, duration: u16, from: u64, until: u64) -> bool
-    ensures { result ≡ (ltb start until && ltb from (start + duration)) }
-{
-    if until <= start as u64 {
-        return false;
-    }
-    from < start as u64 + duration as u64
-}
-
-// Activity i is present, and it runs on some tick from `from` on and before `until`.
-fn runs_between(
+// Activity i is present, and it runs on a tick: it has started, and has not ended.
+fn runs_at(
     duration: &[u16; MOST_ACTS],
     present: u32,
     starts: &[u32; MOST_ACTS],
-    from: u64,
-    until: u64,
+    tick: u32,
     i: usize,
 ) -> bool
     requires { i < most_acts }
-    ensures { result ≡ runs_between duration.now present starts.now from until i }
+    ensures { result ≡ runs_at duration.now present starts.now tick i }
 {
     if !sets::contains(present, i) {
         return false;
     }
-    meets(starts[i], duration[i], from, until)
+    if tick < starts[i] {
+        return false;
+    }
+    !is_over(starts[i], duration[i], tick)
 }
 
 // The units that an activity holds while it runs.
@@ -163,7 +154,7 @@ fn held_at(
     let mut held: u32 = 0;
     let mut i: usize = 0;
     while i < acts {
-        let runs = runs_between(duration, present, starts, tick as u64, tick as u64 + 1, i);
+        let runs = runs_at(duration, present, starts, tick, i);
         held += held_by(runs, units[MOST_RESOURCES * i + r]);
         i += 1;
     }
@@ -228,70 +219,6 @@ fn within_all(
         j += 1;
     }
     true
-}
-
-// Who runs on some tick from `from` on and before `until`; on one tick, where `until` is the next.
-pub fn running(
-    acts: usize,
-    duration: &[u16; MOST_ACTS],
-    present: u32,
-    starts: &[u32; MOST_ACTS],
-    from: u64,
-    until: u64,
-) -> u32
-    requires { acts ≤ most_acts }
-    ensures { Passing acts (runs_between duration.now present starts.now from until) result }
-{
-    let mut set: u32 = 0;
-    let mut i: usize = 0;
-    while i < acts {
-        set = sets::with_if(
-            set,
-            i,
-            runs_between(duration, present, starts, from, until, i),
-        );
-        i += 1;
-    }
-    set
-}
-
-// The end of an activity, if it is present; it may need more bits than a start.
-fn end_of(there: bool, start: u32, duration: u16) -> u64
-    ensures { (result ≡ cond there (start + duration) 0) × (result < 2 ^ 33) }
-{
-    if there {
-        return start as u64 + duration as u64;
-    }
-    0
-}
-
-fn later(a: u64, b: u64) -> u64
-    ensures { result ≡ max a b }
-{
-    if a < b {
-        return b;
-    }
-    a
-}
-
-// The latest end of what is present.
-pub fn latest_end(
-    acts: usize,
-    duration: &[u16; MOST_ACTS],
-    present: u32,
-    starts: &[u32; MOST_ACTS],
-) -> u64
-    requires { acts ≤ most_acts }
-    ensures { result ≡ latest_in acts duration.now present starts.now }
-{
-    let mut latest: u64 = 0;
-    let mut i: usize = 0;
-    while i < acts {
-        let end = end_of(sets::contains(present, i), starts[i], duration[i]);
-        latest = later(latest, end);
-        i += 1;
-    }
-    latest
 }
 
 // Yes exactly if the timetable is a session of the variant of the plan in tables, whatever its numbers are.

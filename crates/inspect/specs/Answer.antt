@@ -1,34 +1,23 @@
 -- CHECK: is the timetable a feasible session of variant v?
-use Rattle.std.specs.Prelude.{ℕ, true, false, cond, List}
+use Rattle.std.specs.Prelude.{ℕ, Bool, true, false, List, ltb}
 use Rattle.plan.specs.Plan.{Plan}
-use Rattle.plan.specs.declared.Refusal.{Refusal}
+use Rattle.plan.specs.declared.Refusal.TheVariants.{NoSuchVariant}
 use Rattle.term.specs.Term.{Term}
+use Rattle.term.specs.Variants.{variant_count}
+use Rattle.variant.specs.Project.{variant_at}
 use Rattle.variant.specs.Timetable.{is_session}
-use Rattle.judge.specs.Judge.{judge}
-use Rattle.judge.specs.Call.{by_verdict, by_variant}
+use Rattle.judge.specs.Judge.{Verdict, accepts, refuses, judge}
 use Rattle.inspect.specs.declared.CheckAnswer.{CheckAnswer}
 use Rattle.inspect.specs.declared.CheckAnswer.TheVariants.{Checked, Refused}
 
--- What comes of a timetable: it is a session of the plan and the chosen term of the variant, it is none, or the file or
--- the number of the variant is refused. Every call that takes a timetable goes by this.
-pub data Finding : Type 0 where
-  session : Plan → Term → Finding
-  none : Finding
-  refuses : Refusal → Finding
+-- By whether the plan has such a variant.
+abbrev pub check_variant : Bool → Plan → Term → ℕ → List ℕ → CheckAnswer
+check_variant true p t v row = Checked (is_session p (variant_at t v) row)
+check_variant false p t v row = Refused NoSuchVariant
 
-abbrev pub find_variant : List ℕ → Plan → Term → Finding
-find_variant row p w = cond (is_session p w row) (session p w) none
-
-abbrev pub find_plan : ℕ → List ℕ → Plan → Term → Finding
-find_plan v row p t = by_variant refuses (find_variant row p) t v
-
-unfoldable pub finding_of : List ℕ → ℕ → List ℕ → Finding
-finding_of s v row = by_verdict refuses (find_plan v row) (judge s)
-
-abbrev pub check_by : Finding → CheckAnswer
-check_by (session p w) = Checked true
-check_by none = Checked false
-check_by (refuses r) = Refused r
+abbrev pub check_by : Verdict → ℕ → List ℕ → CheckAnswer
+check_by (accepts p t) v row = check_variant (ltb v (variant_count t)) p t v row
+check_by (refuses r) v row = Refused r
 
 unfoldable pub check_of : List ℕ → ℕ → List ℕ → CheckAnswer
-check_of s v row = check_by (finding_of s v row)
+check_of s v row = check_by (judge s) v row

@@ -1,4 +1,3 @@
--- What CHECK answers, and the checked session that other calls go on with.
+-- What CHECK answers.
 pub mod Answer
 pub mod Words
-pub mod Session

@@ -19,8 +19,7 @@ use Rattle.sets.specs.Lowest.{lowest_of, after_lowest}
 use Rattle.sets.specs.Sets.{most, has}
 use Rattle.instance.specs.Table.{component_at, clash_at, units_at, capacity_at, acts_of, resources_of, project_in}
 use Rattle.instance.specs.Instance.{own_of, fit_together, is_tight}
-use Rattle.sets.specs.Passing.{Passing}
-use Rattle.instance.specs.Steps.{IsClash, Grouped, Apart, AllClash}
+use Rattle.instance.specs.Steps.{Passing, IsClash, Grouped, Apart, AllClash}
 use Rattle.scan.proofs.Components.{component_joint}
 
 -- ---- two that can run together

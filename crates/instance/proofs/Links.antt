@@ -19,8 +19,7 @@ use Rattle.sets.proofs.Members.{lowest_below, lowest_has, after_less, after_has}
 use Rattle.sets.specs.Lowest.{lowest_of, after_lowest}
 use Rattle.instance.specs.Table.{preds_at, next_at, near_at, preds_from, next_from, near_from, component_from, words}
 use Rattle.instance.specs.Instance.{Between}
-use Rattle.sets.specs.Passing.{with_if}
-use Rattle.instance.specs.Steps.{Filled, Nearest, LinkedNext, Blank, Links}
+use Rattle.instance.specs.Steps.{with_if, Filled, Nearest, LinkedNext, Blank, Links}
 
 -- ---- the nearest members of a set
 

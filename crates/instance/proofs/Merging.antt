@@ -18,8 +18,7 @@ use Rattle.sets.specs.Lowest.{lowest_of, after_lowest}
 use Rattle.sets.specs.Sets.{most, has}
 use Rattle.scan.specs.Components.{merged, component_below}
 use Rattle.instance.specs.Table.{component_from, units_from, component_at, units_at, acts_of, resources_of, project_in}
-use Rattle.sets.specs.Passing.{Passing}
-use Rattle.instance.specs.Steps.{Filled, Joined, IsComponent}
+use Rattle.instance.specs.Steps.{Passing, Filled, Joined, IsComponent}
 use Rattle.scan.proofs.Components.{Touched, merged_touched, merged_same, merged_both, merged_none}
 
 -- ---- the components of the members of a set as one set

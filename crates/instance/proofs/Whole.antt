@@ -17,8 +17,7 @@ use Rattle.instance.specs.Table.{most_count, component_from, clash_from, resourc
 use Rattle.instance.specs.Table.{acts_cell, duration_at, component_at, clash_at, units_at, capacity_at, acts_of, tight_of}
 use Rattle.instance.specs.Table.{resources_of}
 use Rattle.instance.specs.Instance.{own_of, is_tight, Laid, Given, LaidFrom}
-use Rattle.sets.specs.Passing.{Passing}
-use Rattle.instance.specs.Steps.{Filled, Columns, Counted, IsComponent, IsClash, Grouped, Apart}
+use Rattle.instance.specs.Steps.{Passing, Filled, Columns, Counted, IsComponent, IsClash, Grouped, Apart}
 use Rattle.instance.proofs.Same.{SameUnits, units_same, capacity_same, component_test, clash_test, tight_test}
 use Rattle.instance.proofs.Same.{counted_same, grouped_same, filled_same, same_joined}
 

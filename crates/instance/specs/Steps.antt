@@ -1,12 +1,21 @@
 -- What the contracts of the steps towards the table say.
 use Rattle.std.specs.Prelude.{ℕ, ◌+◌, ◌*◌, ◌^◌, ◌≤◌, ◌<◌, Bool, true, false, cond, not, ◌&&◌, List, ◌≢◌, ◌≡◌, ltb, eqb, length, get_or}
+use Rattle.std.specs.Int.Bits.{bit_or}
 use Rattle.plan.specs.Limits.{most_resources}
 use Rattle.sets.specs.Sets.{most, has}
-use Rattle.sets.specs.Passing.{with_if}
 use Rattle.instance.specs.Table.{most_count, words, next_from, near_from, component_from, units_from}
 use Rattle.instance.specs.Table.{duration_at, preds_at, next_at, near_at, component_at, clash_at, units_at, capacity_at}
 use Rattle.instance.specs.Table.{resources_of, acts_of}
 use Rattle.instance.specs.Instance.{Linked, own_of, fit_together}
+
+-- The set x with i where a test holds.
+abbrev pub with_if : Bool → ℕ → ℕ → ℕ
+with_if test x i = cond test (bit_or x (2 ^ i)) x
+
+-- The set of the numbers below n that pass a test.
+pub record Passing (n : ℕ) (test : ℕ → Bool) (set : ℕ) : Type 0 where
+  pub low : set < 2 ^ most
+  pub member : (k : ℕ) → has set k ≡ (ltb k n && test k)
 
 -- The table t with n cells new from there on: of cell i holds P i.
 pub record Filled (t : List ℕ) (from n : ℕ) (P : ℕ → ℕ → Type 0) (r : List ℕ) : Type 0 where

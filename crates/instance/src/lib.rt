@@ -6,8 +6,7 @@ ghost use Rattle.sets.specs.Sets.{most, has, width};
 ghost use Rattle.instance.specs.Table.{words, preds_from, next_from, component_from, clash_from, units_from};
 ghost use Rattle.instance.specs.Table.{capacity_from, component_at, units_at, resources_of, acts_of};
 ghost use Rattle.instance.specs.Instance.{fit_together, is_tight, own_of, Given, LaidFrom, Chosen, Placed};
-ghost use Rattle.sets.specs.Passing.{Passing};
-ghost use Rattle.instance.specs.Steps.{Filled, Columns, Counted, Joined, IsComponent};
+ghost use Rattle.instance.specs.Steps.{with_if, Passing, Filled, Columns, Counted, Joined, IsComponent};
 ghost use Rattle.instance.specs.Steps.{IsClash, Grouped, Apart, AllClash, Nearest, LinkedNext, Blank, Links};
 
 use plan::{MOST_ACTS, MOST_RESOURCES};
@@ -61,6 +60,18 @@ pub fn units_of(table: &Table, i: usize, r: usize) -> u32
     ensures { result ≡ units_at table.now i r }
 {
     table[UNITS + ROW * i + r]
+}
+
+// The set with i where a test holds.
+fn with_if(set: u32, i: usize, test: bool) -> u32
+    requires { i < most }
+    ensures { result ≡ with_if test set i }
+{
+    if test {
+        sets::union(set, sets::single(i))
+    } else {
+        set
+    }
 }
 
 fn wide(duration: u16) -> u32
@@ -155,7 +166,7 @@ fn users(table: &Table, acts: usize, r: usize) -> u32
     let mut i = 0;
     while i < acts {
         let held = units_of(table, i, r);
-        set = sets::with_if(set, i, held > 0);
+        set = with_if(set, i, held > 0);
         i += 1;
     }
     set
@@ -236,7 +247,7 @@ fn clashing(table: &Table, acts: usize, resources: usize, i: usize) -> u32
     let mut k = 0;
     while k < acts {
         let fits = fit(table, resources, i, k);
-        set = sets::with_if(set, k, !fits);
+        set = with_if(set, k, !fits);
         k += 1;
     }
     sets::minus(set, sets::single(i))
@@ -280,7 +291,7 @@ fn tight(table: &Table, acts: usize) -> u32
     while i < acts {
         let component = table[COMPONENT + i];
         let clash = all_clash(table, component);
-        set = sets::with_if(set, i, clash);
+        set = with_if(set, i, clash);
         i += 1;
     }
     set

@@ -1,7 +1,6 @@
--- What is accepted, what the judgement says of the tables, and what a call does by it.
+-- What is accepted, and what the judgement says of the tables.
 pub mod Accepts
 pub mod Ranges
 pub mod Judging
 pub mod Parsing
 pub mod Holding
-pub mod Call

@@ -84,8 +84,8 @@ module _ (t : List ℕ) (given : Instance t) {left free latest : ℕ} {w : List 
   left_waits i y =
       not-true (F i) (and_right (has (present_of t) i) (not (F i)) (sym (lone.is_left_lem i) ∙ y))
 
-  pub left_of_lem : (i : ℕ) → Has (project_in t) i → F i ≡ false → has left i ≡ true
-  left_of_lem i h z = lone.is_left_lem i ∙ both (has_is t given i h) (ap not z)
+  pub left_of : (i : ℕ) → Has (project_in t) i → F i ≡ false → has left i ≡ true
+  left_of i h z = lone.is_left_lem i ∙ both (has_is t given i h) (ap not z)
 
   left_has : (i : ℕ) → has left i ≡ true → Has (project_in t) i
   left_has i y = has_of t given i (left_present i y)

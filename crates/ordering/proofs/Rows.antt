@@ -32,7 +32,7 @@ use Rattle.tally.specs.Seen.{IsTally}
 use Rattle.tally.specs.Leaf.{Leaf}
 use Rattle.steps.proofs.Given.{has_of, scannable}
 use Rattle.ordering.specs.Lone.{from_at, Lone, RowsUnder}
-use Rattle.ordering.proofs.Lone.{left_of_lem, left_below}
+use Rattle.ordering.proofs.Lone.{left_of, left_below}
 
 module _ (t : List ℕ) (given : Instance t) {left free latest : ℕ} {w : List ℕ} {F : ℕ → Bool} {S : Starts}
     (lone : Lone t left free latest w F S) where
@@ -72,12 +72,12 @@ module _ (t : List ℕ) (given : Instance t) {left free latest : ℕ} {w : List 
       unfolding project_in
       first_rows below each none =
           let is_left_lem : (j : ℕ) → Chosen j → has left j ≡ true =
-          λ j b. left_of_lem t given lone j b.is_open.has b.is_open.waits in
+          λ j b. left_of t given lone j b.is_open.has b.is_open.waits in
           branch_rows (project_in t) (own_of t) mark F S (scannable t given).sound (scannable t given).joint
-          lone.node (from_at w free) (λ i o. lone.soon i (left_of_lem t given lone i o.has o.waits))
+          lone.node (from_at w free) (λ i o. lone.soon i (left_of t given lone i o.has o.waits))
           (from_at w free who + duration_at t who) (own_of t who)
           (record {
-            least = λ i o. least i (left_of_lem t given lone i o.has o.waits);
+            least = λ i o. least i (left_of t given lone i o.has o.waits);
             who = who;
             is_open = lone.opened who member;
             on = refl;
@@ -109,7 +109,7 @@ module _ (t : List ℕ) (given : Instance t) {left free latest : ℕ} {w : List 
   last_rows i y only rows =
       alone_rows (project_in t) (own_of t) mark F S (scannable t given).sound (scannable t given).joint lone.node i
       (from_at w free i) (lone.opened i y) (lone.soon i y)
-      (λ k h z on. only k (left_of_lem t given lone k h z))
+      (λ k h z on. only k (left_of t given lone k h z))
       (λ k f free on. ahead i k y f.there on) rows
 
 -- Nothing is left.
@@ -117,7 +117,7 @@ module _ (t : List ℕ) (given : Instance t) {free latest : ℕ} {w : List ℕ} 
     (lone : Lone t 0 free latest w F S) where
   all_frozen : (i : ℕ) → Has (project_in t) i → F i ≡ true
   all_frozen i h =
-      by_bool (F i) (λ y. y) (λ z. true_not_false (left_of_lem t given lone i h z) (has_none i))
+      by_bool (F i) (λ y. y) (λ z. true_not_false (left_of t given lone i h z) (has_none i))
 
   ended_at : (i : ℕ) → has (present_of t) i ≡ true → S i + duration_at t i ≡ end_at w i
   ended_at i y = lone.ended i (all_frozen i (has_of t given i y))

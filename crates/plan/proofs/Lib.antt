@@ -1,3 +1,2 @@
--- The node that a letter and a number name, and cells placed into an area.
+-- The node that a letter and a number name.
 pub mod Nodes
-pub mod Outcome

@@ -1,22 +1,22 @@
 -- The listing in the words of the paper: its rows are exactly the active sessions of the variants, each once, under the
 -- lowest variant that has it, and before all that follow it. The row that BEST answers is the first shortest of them,
 -- and BEST's last number says how many are shortest.
-use Prim.Native.Nat.{ℕ, suc, ◌*◌, ◌≤◌, ◌<◌}
+use Prim.Native.Nat.{ℕ, suc, ◌≤◌, ◌<◌}
 use native.Mathlib.Decide.{ℕ_discrete, dec_lt}
 use native.Mathlib.Omega.{arith}
-use mathlib.Core.Bool.{true, not}
+use mathlib.Core.Bool.{Bool, true, false, not}
 use mathlib.Core.HLevel.{¬_prop}
 use mathlib.Core.List.Memᴰ
-use mathlib.Core.List.{List, ◌∷◌, map, Mem, Memᴰ, List-discrete}
+use mathlib.Core.List.{List, ◌∷◌, ◌++◌, map, Mem, Memᴰ, List-discrete}
 use mathlib.Core.List.Pairwise
 use mathlib.Core.Logic.{◌↔◌, ◌≢◌, by_cases, inl, inr}
 use mathlib.Core.Path.{◌≡◌, refl, sym, ap, ap₂, subst, ◌∙◌}
-use lib.ListN.{length}
+use lib.Dec.{leb}
+use lib.ListN.{length, drop}
 use borrow.Author.Tests.{ltb-true, eq-eqb, eqb-true}
-use Rattle.plan.specs.Outcome.{Outcome, turned_back}
+use Rattle.plan.specs.Outcome.{Outcome}
 use Rattle.plan.specs.Plan.{Plan}
 use Rattle.plan.specs.declared.Refusal.{Refusal}
-use Rattle.plan.proofs.Outcome.{was_placed}
 use Rattle.term.specs.Term.{Term}
 use Rattle.term.specs.Variants.{variant_count, activities, member}
 use Rattle.term.proofs.Twice.{member_found}
@@ -38,10 +38,9 @@ use Rattle.variant.proofs.Instance.{sound}
 use Rattle.variant.specs.Pairs.{sessions_of, is_new, pairs, pair_count}
 use Rattle.variant.specs.Words.{Present, Makespan, IsActive, ActiveSession, Sooner}
 use Rattle.variant.proofs.Words.{absent, variant_inside, variant_some, has, makespan_means, active_words, words_active}
-use Rattle.judge.specs.Judge.{judge, accepts}
+use Rattle.judge.specs.Judge.{Verdict, judge, accepts, refuses}
 use Rattle.judge.proofs.Accepts.{accepted_valid}
-use Rattle.judge.proofs.Call.{was_accepted, was_allowed}
-use Rattle.answers.specs.Listed.{list_pairs, list_plan, list_of}
+use Rattle.answers.specs.Listed.{cells_needed, list_within, list_by, list_of}
 use Rattle.answers.specs.Shortest.{makespan_in, row_starts, row_span, shortest_pairs, shortest_count, first_shortest}
 use Rattle.answers.specs.Words.{ActiveForSome, IsRow, StandsBefore, Listing, ListingOf, SpanOf, NoLonger}
 use Rattle.answers.specs.Words.{FirstShortest, ShortestRows}
@@ -310,45 +309,45 @@ module _ (p : Plan) (t : Term) (valid : Valid p t) where
 never : {A : Type 0} {r : Refusal} {n : ℕ} → Listed n ≡ Refused r → A
 never e = absurd (let z : ◌≡◌ {A = ℕ} 0 1 = cc in omega arith)
 
-same_rows : {m n : ℕ} → Listed m ≡ Listed n → m ≡ n
-same_rows e = cc
-
--- The cells of the rows, each a variant and a start for each activity of the plan.
-abbrev pub cells_needed : Plan → Term → ℕ
-cells_needed p t = pair_count p t * suc (length p.activities)
-
-pub cells_needed_lem : (p : Plan) (t : Term) → Valid p t → length (cells_of (pairs p t)) ≡ cells_needed p t
-unfolding pair_count
-cells_needed_lem p t valid =
-    cells_length (suc (length p.activities)) (pairs p t)
-    (λ row m.
-    let r = ((pairs_listing p t valid).exactly row).0 m in
-    ap length r.whole ∙ ap suc r.session.long)
-
 -- What LIST leaves in the area when it answers n.
-module _ (s : List ℕ) (cap n : ℕ) (before after : List ℕ) where
-  abbrev left : Outcome ListAnswer
-  left = record { answer = Listed n; area = after }
+module _ (s : List ℕ) (n : ℕ) (before after : List ℕ) (p : Plan) (t : Term) (accepted : judge s ≡ accepts p t) where
+  abbrev width : ℕ
+  width = suc (length p.activities)
 
-  not_refused : (r : Refusal) → turned_back Refused before r ≡ left → ⊥
-  not_refused r h = never (sym (ap (λ (o : Outcome ListAnswer). o.answer) h))
+  row_long : (row : List ℕ) → IsRow p t row → length row ≡ width
+  row_long row r = ap length r.whole ∙ ap suc r.session.long
 
-  pub list_listing : list_of s cap before ≡ left → ListingOf s n before after
-  unfolding list_of pair_count
-  list_listing h =
-      let (p, t, accepted, by_plan) = was_accepted (turned_back Refused before) left not_refused (list_plan cap before) s h
-      in
-      let (few, by-cap) =
-      was_allowed (turned_back Refused before) left not_refused (list_pairs before p t) (pair_count p t) cap by_plan in
-      let done =
-      (was_placed Refused (λ cells. Listed (pair_count p t)) (cells_of (pairs p t)) before left (λ r e. never (sym e))
-      by-cap).1 in
+  listed : Listed (pair_count p t) ≡ Listed n → cells_of (pairs p t) ++ drop (cells_needed p t) before ≡ after
+      → ListingOf s n before after
+  unfolding pair_count
+  listed answer cells =
+      let listing : Listing p t (pairs p t) = pairs_listing p t (accepted_valid s p t accepted).0 in
+      let long : length (cells_of (pairs p t)) ≡ cells_needed p t =
+      cells_length width (pairs p t) (λ row m. row_long row ((listing.exactly row).0 m)) in
       record {
         plan = p;
         term = t;
         accepted = accepted;
         rows = pairs p t;
-        count = same_rows (ap (λ (o : Outcome ListAnswer). o.answer) done);
-        cells = sym (ap (λ (o : Outcome ListAnswer). o.area) done);
-        listing = pairs_listing p t (accepted_valid s p t accepted).0;
+        count = cc;
+        cells = sym cells ∙ ap (λ (k : ℕ). cells_of (pairs p t) ++ drop k before) (sym long);
+        listing = listing;
       }
+
+  within : (a b : Bool) → list_within a b p t before ≡ record { answer = Listed n; area = after }
+      → ListingOf s n before after
+  within false b h = never (sym (ap (λ (o : Outcome ListAnswer). o.answer) h))
+  within true false h = never (sym (ap (λ (o : Outcome ListAnswer). o.answer) h))
+  within true true h =
+      listed (ap (λ (o : Outcome ListAnswer). o.answer) h) (ap (λ (o : Outcome ListAnswer). o.area) h)
+
+module _ (s : List ℕ) (cap n : ℕ) (before after : List ℕ) where
+  by_verdict : (o : Verdict) → judge s ≡ o → list_by o cap before ≡ record { answer = Listed n; area = after }
+      → ListingOf s n before after
+  by_verdict (accepts p t) e h =
+      within s n before after p t e (leb (pair_count p t) cap) (leb (cells_needed p t) (length before)) h
+  by_verdict (refuses r) e h = never (sym (ap (λ (o : Outcome ListAnswer). o.answer) h))
+
+  pub list_listing : list_of s cap before ≡ record { answer = Listed n; area = after } → ListingOf s n before after
+  unfolding list_of
+  list_listing h = by_verdict (judge s) refl h

@@ -1,61 +1,59 @@
 -- What is written fits the area that was lent, and the rows of a listing lie in it.
 use Prim.Native.Nat.{ℕ, suc, ◌+◌, ◌*◌, ◌≤◌, ◌<◌}
+use mathlib.Core.Bool.{Bool, true, false}
 use mathlib.Core.List.{List}
 use mathlib.Core.Path.{◌≡◌, refl, sym, ap, ◌∙◌}
 use native.Mathlib.Nat.{suc-mul, mul-le-mul_right}
 use native.Mathlib.Numerals.{add-one}
 use native.Mathlib.Omega.{arith}
+use borrow.Author.Tests.{leb-true}
+use lib.Dec.{leb, ltb}
 use lib.ListN.{length}
-use Rattle.base.specs.Lists.{cells_of}
 use Rattle.plan.specs.declared.Refusal.{Refusal}
 use Rattle.plan.specs.Limits.{most_acts}
-use Rattle.plan.specs.Outcome.{Outcome, turned_back}
+use Rattle.plan.specs.Outcome.{Outcome}
 use Rattle.plan.specs.Plan.{Plan}
-use Rattle.plan.proofs.Outcome.{was_placed}
 use Rattle.term.specs.Term.{Term}
-use Rattle.variant.specs.Pairs.{pairs, pair_count}
+use Rattle.term.specs.Variants.{variant_count}
 use Rattle.variant.specs.Project.{variant_at}
 use Rattle.variant.specs.Written.{written}
 use Rattle.format.proofs.Tests.{between_facts}
 use Rattle.format.proofs.Plans.{plan_sound}
-use Rattle.judge.specs.Judge.{accepts, judge}
-use Rattle.judge.proofs.Accepts.{accepted_valid}
-use Rattle.judge.proofs.Call.{verdict_accepts, was_accepted, had_variant, was_allowed}
+use Rattle.variant.specs.Pairs.{pair_count}
+use Rattle.judge.specs.Judge.{Verdict, accepts, refuses, judge}
 use Rattle.read.specs.declared.ReadAnswer.TheVariants.{Read}
-use Rattle.read.specs.declared.ReadAnswer.TheVariants as ReadAnswers
-use Rattle.read.specs.Answer.{read_plan, read_of}
-use Rattle.write.specs.declared.WriteAnswer.{WriteAnswer}
+use Rattle.read.specs.Answer.{answer_to, read_of}
+use Rattle.judge.proofs.Accepts.{accepted_valid}
 use Rattle.write.specs.declared.WriteAnswer.TheVariants.{Written, Refused}
-use Rattle.write.specs.Answer.{write_variant, write_plan, write_of}
 use Rattle.answers.specs.declared.ListAnswer.{ListAnswer}
 use Rattle.answers.specs.declared.ListAnswer.TheVariants.{Listed}
 use Rattle.answers.specs.declared.ListAnswer.TheVariants as Lists
-use Rattle.answers.specs.Listed.{list_pairs, list_plan, list_of}
-use Rattle.plan_exact.proofs.Meaning.{cells_needed_lem}
+use Rattle.answers.specs.Listed.{cells_needed, list_within, list_by, list_of}
+use Rattle.write.specs.Answer.{placed_by, write_variant, write_by, write_of}
 
 refused : {A : Type 0} {r : Refusal} {n : ℕ} → Refused r ≡ Written n → A
 refused e = let z : ◌≡◌ {A = ℕ} 0 1 = cc in absurd (omega arith)
 
-same_bytes : {m n : ℕ} → Written m ≡ Written n → m ≡ n
-same_bytes e = cc
+placed_fits : (b : Bool) (bytes area : List ℕ) (n : ℕ) → leb (length bytes) (length area) ≡ b
+    → (placed_by b bytes area).answer ≡ Written n → n ≤ length area
+placed_fits true bytes area n t e =
+    let is : length bytes ≡ n = cc in
+    omega (arith, leb-true (length bytes) (length area) t)
+placed_fits false bytes area n t e = refused e
 
-module _ (s : List ℕ) (v : ℕ) (area : List ℕ) (n : ℕ) (e : (write_of s v area).answer ≡ Written n) where
-  abbrev wrote : Outcome WriteAnswer
-  wrote = write_of s v area
+variant_fits : (b : Bool) (p : Plan) (t : Term) (v : ℕ) (area : List ℕ) (n : ℕ)
+    → (write_variant b p t v area).answer ≡ Written n → n ≤ length area
+variant_fits true p t v area n e = placed_fits _ (written p (variant_at t v)) area n refl e
+variant_fits false p t v area n e = refused e
 
-  abbrev answer_of : Outcome WriteAnswer → WriteAnswer
-  answer_of o = o.answer
+verdict_fits : (j : Verdict) (v : ℕ) (area : List ℕ) (n : ℕ) → (write_by j v area).answer ≡ Written n → n ≤ length area
+verdict_fits (accepts p t) v area n e = variant_fits (ltb v (variant_count t)) p t v area n e
+verdict_fits (refuses r) v area n e = refused e
 
-  pub written_fits : n ≤ length area
-  unfolding write_of
-  written_fits =
-      let turned = turned_back Refused area in
-      let given : (r : Refusal) → turned r ≡ wrote → ⊥ = λ r h. refused (ap answer_of h ∙ e) in
-      let (p, t, is, by_plan) = was_accepted turned wrote given (write_plan v area) s refl in
-      let (l, by_variant_lem) = had_variant turned wrote given (write_variant area p) t v by_plan in
-      let (fits, done) =
-      was_placed Refused Written (written p (variant_at t v)) area wrote (λ r h. refused (h ∙ e)) by_variant_lem in
-      omega (arith, same_bytes (ap answer_of done ∙ e), fits)
+pub written_fits : (s : List ℕ) (v : ℕ) (area : List ℕ) (n : ℕ) → (write_of s v area).answer ≡ Written n
+    → n ≤ length area
+unfolding write_of
+written_fits s v area n e = verdict_fits (judge s) v area n e
 
 -- One row more, where rows of a width lie one after the other.
 pub next_row : (row rows width at size : ℕ) → at ≡ row * width → row < rows → rows * width ≤ size
@@ -68,52 +66,36 @@ next_row row rows width at size is h fits =
 not_listed : {A : Type 0} {r : Refusal} {k : ℕ} → Lists.Refused r ≡ Listed k → A
 not_listed e = let z : ◌≡◌ {A = ℕ} 0 1 = cc in absurd (omega arith)
 
-same_listed : {m n : ℕ} → Listed m ≡ Listed n → m ≡ n
-same_listed e = cc
-
 -- READ tells of the plan that LIST lists: it has few activities, and the rows of its sessions fit the area.
 module _ (s : List ℕ) (n m v : ℕ) (told : read_of s ≡ Read n m v) where
-  not_read : (r : Refusal) → ReadAnswers.Refused r ≡ Read n m v → ⊥
-  not_read r e = let z : ◌≡◌ {A = ℕ} 0 1 = cc in omega arith
-
-  same_acts : {a b c : ℕ} → Read a b c ≡ Read n m v → a ≡ n
-  same_acts e = cc
-
-  plan_read : (p : Plan) × (t : Term) × (judge s ≡ accepts p t) × (length p.activities ≡ n)
-  unfolding read_of
-  plan_read =
-      let (p, t, is, e) = was_accepted ReadAnswers.Refused (Read n m v) not_read read_plan s told in
-      (p, t, is, same_acts e)
+  by_verdict : {C : Type 0} (j : Verdict) → judge s ≡ j → answer_to j ≡ Read n m v
+      → ((p : Plan) (t : Term) → judge s ≡ accepts p t → length p.activities ≡ n → C) → C
+  by_verdict (accepts p t) is e f = f p t is (cc)
+  by_verdict (refuses r) is e f = let z : ◌≡◌ {A = ℕ} 0 1 = cc in absurd (omega arith)
 
   pub few_activities : n ≤ most_acts
+  unfolding read_of
   few_activities =
-      let (p, t, is, count) = plan_read in
+      by_verdict (judge s) refl told λ p t is count.
       let ranges = plan_sound p (accepted_valid s p t is).0.ranges in
-      omega (arith, count, between_facts 1 most_acts (length p.activities) ranges.acts)
+      omega (arith, between_facts 1 most_acts (length p.activities) ranges.acts)
 
-  -- What LIST has written of it.
-  module _ (cap : ℕ) (before : List ℕ) (o : Outcome ListAnswer) (is : o ≡ list_of s cap before) (k : ℕ)
-      (e : o.answer ≡ Listed k) where
-    abbrev turned : Refusal → Outcome ListAnswer
-    turned = turned_back Lists.Refused before
+  listed_fit : (b c : Bool) (p : Plan) (t : Term) (before : List ℕ) (k : ℕ)
+      → leb (cells_needed p t) (length before) ≡ c → (list_within b c p t before).answer ≡ Listed k
+      → k * suc (length p.activities) ≤ length before
+  listed_fit true true p t before k fits e =
+      let is : pair_count p t ≡ k = cc in
+      rw (← is) (leb-true (cells_needed p t) (length before) fits)
+  listed_fit true false p t before k fits e = not_listed e
+  listed_fit false c p t before k fits e = not_listed e
 
-    abbrev rows_of : Outcome ListAnswer → ListAnswer
-    rows_of x = x.answer
-
-    given : (r : Refusal) → turned r ≡ o → ⊥
-    given r h = not_listed (ap rows_of h ∙ e)
-
-    list_fits : (p : Plan) (t : Term) → judge s ≡ accepts p t → k * suc (length p.activities) ≤ length before
-    unfolding list_of
-    list_fits p t accepted =
-        let by_plan : list_plan cap before p t ≡ o =
-        sym (is ∙ verdict_accepts turned (list_plan cap before) s p t accepted) in
-        let (few, by-cap) = was_allowed turned o given (list_pairs before p t) (pair_count p t) cap by_plan in
-        let (fits, done) =
-        was_placed Lists.Refused (λ cells. Listed (pair_count p t)) (cells_of (pairs p t)) before o
-        (λ r h. not_listed (h ∙ e)) by-cap in
-        rw (← same_listed (ap rows_of done ∙ e))
-        (omega (arith, fits, cells_needed_lem p t (accepted_valid s p t accepted).0))
-
-    pub rows_fit : k * (n + 1) ≤ length before
-    rows_fit = let (p, t, accepted, count) = plan_read in rw (add-one, ← count) (list_fits p t accepted)
+  pub rows_fit : (cap : ℕ) (before : List ℕ) (o : Outcome ListAnswer) → o ≡ list_of s cap before
+      → (k : ℕ) → o.answer ≡ Listed k → k * (n + 1) ≤ length before
+  unfolding read_of list_of
+  rows_fit cap before o lists k e =
+      by_verdict (judge s) refl told λ p t is count.
+      rw (add-one, ← count)
+      (listed_fit (leb (pair_count p t) cap) _ p t before k refl
+      (sym (ap (λ (j : Verdict). (list_by j cap before).answer) is)
+      ∙ sym (ap (λ (x : Outcome ListAnswer). x.answer) lists)
+      ∙ e))

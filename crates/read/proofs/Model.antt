@@ -21,8 +21,7 @@ use Rattle.term.proofs.Reading.{plan_full}
 use Rattle.term.proofs.Counting.{variant_count_count}
 use Rattle.term.proofs.Twice.{twice_clash}
 use Rattle.judge.specs.Judge.{judge, judge_term, judge_variants, judge_result}
-use Rattle.judge.specs.Call.{by_verdict}
-use Rattle.read.specs.Answer.{read_plan, read_of}
+use Rattle.read.specs.Answer.{answer_to, read_of}
 use Rattle.read.specs.declared.ReadAnswer.{ReadAnswer}
 use Rattle.read.specs.declared.ReadAnswer.TheVariants.{Read, Refused}
 
@@ -43,21 +42,20 @@ unfoldable pub read_by : List ℕ → ReadAnswer
 read_by s = read_result (parse s)
 
 variants_same : (p : Plan) (t : Term) (a b : Bool) → variant_count t ≡ count t
-    → by_verdict Refused read_plan (judge_variants p t a b) ≡ read_variants p t a b
+    → answer_to (judge_variants p t a b) ≡ read_variants p t a b
 variants_same p t true b e = refl
 variants_same p t false true e = refl
 variants_same p t false false e = ap (λ (n : ℕ). Read (length p.activities) (length p.nodes) n) e
 
 term_same : (p : Plan) (o : Option Term) → term_of p.nodes ≡ o → is_plan p ≡ true
-    → by_verdict Refused read_plan (judge_term p o) ≡ read_term p o
+    → answer_to (judge_term p o) ≡ read_term p o
 term_same p none eo r = refl
 term_same p (some t) eo r =
     let n = variant_count_count t in
     rw (twice_clash t (plan_full p t r eo), n)
     (variants_same p t (clash t) (ltb most_variants (count t)) n)
 
-result_same : (s : List ℕ) (o : Result) → parse s ≡ o
-    → by_verdict Refused read_plan (judge_result o) ≡ read_result o
+result_same : (s : List ℕ) (o : Result) → parse s ≡ o → answer_to (judge_result o) ≡ read_result o
 result_same s (Parse.holds p) e = term_same p (term_of p.nodes) refl (parse_text s p e).0
 result_same s (Parse.refuses r) e = refl
 

@@ -10,8 +10,7 @@ use Rattle.judge.specs.Judge.{judge}
 use Rattle.judge.specs.Campaign.{HoldsPlan}
 use Rattle.judge.proofs.Ranges.{acts_are, nodes_are}
 use Rattle.judge.specs.declared.Campaign.{Campaign}
-use Rattle.judge.specs.Call.{by_verdict}
-use Rattle.read.specs.Answer.{read_plan, read_of}
+use Rattle.read.specs.Answer.{answer_to, read_of}
 use Rattle.read.specs.declared.ReadAnswer.TheVariants.{Read, Refused}
 
 pub reads_plan : (s : List ℕ) (c : Campaign) (t : Term) → judge s ≡ Judge.accepts (plan_of c.tables) t
@@ -22,9 +21,9 @@ reads_plan s c t e h =
     let n = acts_are c.tables h.ranged in
     let m = nodes_are c.tables h.ranged in
     let v = h.counted in
-    let a = ap (by_verdict Refused read_plan) e in
+    let a = ap answer_to e in
     cc
 
 pub reads_refusal : (s : List ℕ) (r : Refusal) → judge s ≡ Judge.refuses r → Refused r ≡ read_of s
 unfolding read_of
-reads_refusal s r e = sym (ap (by_verdict Refused read_plan) e)
+reads_refusal s r e = sym (ap answer_to e)

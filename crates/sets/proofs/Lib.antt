@@ -2,4 +2,3 @@
 pub mod Laws
 pub mod Members
 pub mod Turns
-pub mod Passing

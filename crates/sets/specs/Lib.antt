@@ -1,4 +1,3 @@
--- Sets of activities as numbers, their lowest members, and sets made by a test.
+-- Sets of activities as numbers, and their lowest members.
 pub mod Sets
 pub mod Lowest
-pub mod Passing

@@ -3,7 +3,6 @@ ghost use Rattle.std.specs.Prelude.{◌≡◌, ◌-◌, ◌^◌, ◌<◌, true};
 ghost use Rattle.std.specs.Int.Bits.{bit_and, bit_or, bit_xor};
 ghost use Rattle.sets.specs.Sets.{most, has, meet};
 ghost use Rattle.sets.specs.Lowest.{lowest_of, after_lowest};
-ghost use Rattle.sets.specs.Passing.{with_if};
 
 // The bits of a word. What is kept for each member has a place for each of them, so that any bit is an index.
 pub const WIDTH: usize = 32;
@@ -75,12 +74,4 @@ pub fn after_lowest(set: u32) -> u32
     ensures { result ≡ after_lowest set }
 {
     set & (set - 1)
-}
-
-// The set with i where a test holds.
-pub fn with_if(set: u32, i: usize, test: bool) -> u32
-    requires { i < most }
-    ensures { result ≡ with_if test set i }
-{
-    if test { union(set, single(i)) } else { set }
 }

@@ -34,7 +34,7 @@ use Rattle.steps.specs.Shown.{Shows}
 use Rattle.steps.specs.declared.Line.{Line}
 use Rattle.steps.proofs.Given.{has_is, has_of, scannable}
 use Rattle.steps.proofs.Free.{Covers, room_fits, fits_room, alone_fits, tight_alone}
-use Rattle.steps.proofs.Sets.{frozen_of, frozen_is, loose_of, loose_is, waiting_of, waiting_is, left_is, left_of_lem}
+use Rattle.steps.proofs.Sets.{frozen_of, frozen_is, loose_of, loose_is, waiting_of, waiting_is, left_is, left_of}
 use Rattle.steps.proofs.Sets.{running_frozen, running_there, loose_shown}
 
 module _ (t : List ℕ) (given : Instance t) (l : Line) (w : List ℕ) (d : Diagram) (shows : Shows t l w d)
@@ -218,7 +218,7 @@ module _ (t : List ℕ) (given : Instance t) (l : Line) (w : List ℕ) (d : Diag
       let waits : d.frozen i ≡ false =
       by_bool (d.frozen i) (λ f. true_not_false (standing.within i f) off) (λ n. n) in
       true_not_false
-      (waiting_of l i (left_of_lem t given l w d shows d.tick standing i (has_is t given i h) waits)
+      (waiting_of l i (left_of t given l w d shows d.tick standing i (has_is t given i h) waits)
       (sym (shows.placed i) ∙ off))
       z)
       (λ n. rw z (sym n)))

@@ -67,8 +67,8 @@ module _ (t : List ℕ) (given : Instance t) (l : Line) (w : List ℕ) (d : Diag
         not-true (d.frozen i) (and_right (has (present_of t) i) (not (d.frozen i)) two),
       )
 
-  pub left_of_lem : has (present_of t) i ≡ true → d.frozen i ≡ false → has l.left i ≡ true
-  left_of_lem y z = shows.left i ∙ both y (ap not z)
+  pub left_of : has (present_of t) i ≡ true → d.frozen i ≡ false → has l.left i ≡ true
+  left_of y z = shows.left i ∙ both y (ap not z)
 
   -- What is in T and not left is frozen.
   pub running_frozen : has (running_in l) i ≡ true → d.frozen i ≡ true
@@ -76,7 +76,7 @@ module _ (t : List ℕ) (given : Instance t) (l : Line) (w : List ℕ) (d : Diag
       let (term, off) = running_is l i y in
       by_bool (d.frozen i) (λ f. f)
       (λ z.
-      true_not_false (left_of_lem (has_is t given i (standing.known i (shows.term i ∙ term))) z) off)
+      true_not_false (left_of (has_is t given i (standing.known i (shows.term i ∙ term))) z) off)
 
   pub running_there : d.frozen i ≡ true → d.term i ≡ true → has (running_in l) i ≡ true
   running_there f y =
@@ -85,7 +85,7 @@ module _ (t : List ℕ) (given : Instance t) (l : Line) (w : List ℕ) (d : Diag
   -- What is placed and not frozen.
   pub loose_there : d.placed i ≡ true → d.frozen i ≡ false → has (loose_in l) i ≡ true
   loose_there y z =
-      loose_of l i (sym (shows.placed i) ∙ y) (left_of_lem (has_is t given i (standing.inside i y)) z)
+      loose_of l i (sym (shows.placed i) ∙ y) (left_of (has_is t given i (standing.inside i y)) z)
 
   pub loose_shown : has (loose_in l) i ≡ true → (d.placed i ≡ true) × (d.frozen i ≡ false)
   loose_shown y = let (placed, left) = loose_is l i y in (shows.placed i ∙ placed, (left_is left).1)

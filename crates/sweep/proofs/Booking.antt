@@ -204,8 +204,8 @@ module _ (t : Term) (v s : ℕ) (preds heads b : List ℕ) (k : ℕ) (own : Orde
     by_entry : ℕ → Bool
     by_entry e = is_alike b k e && active (under_order (project_in table) (order_at b e)) (starts_of row)
 
-    by_variant_lem : ℕ → Bool
-    by_variant_lem u = is_one_of row (sessions_of p t u)
+    by_variant : ℕ → Bool
+    by_variant u = is_one_of row (sessions_of p t u)
 
     active_same : (u e : ℕ) → IsEntry b e (variant_at t u)
         → ((i : ℕ) → member i (activities (variant_at t u)) ≡ member i (activities (variant_at t v)))
@@ -217,8 +217,8 @@ module _ (t : Term) (v s : ℕ) (preds heads b : List ℕ) (k : ℕ) (own : Orde
         (λ i. ap (λ (x : ℕ). has x i) is ∙ own.members i ∙ sym (members i)) entry.before)
         (starts_of row)
 
-    entry_of : (u : ℕ) → u < v → by_variant_lem u ≡ true → (e : ℕ) × (e < k) × (by_entry e ≡ true)
-    unfolding by_entry by_variant_lem
+    entry_of : (u : ℕ) → u < v → by_variant u ≡ true → (e : ℕ) × (e < k) × (by_entry e ≡ true)
+    unfolding by_entry by_variant
     entry_of u l y =
         let (e, low, entry) = booked.each u l in
         let there : Memᴰ row (sessions_of p t u) = one_of_is row (sessions_of p t u) y in
@@ -235,8 +235,8 @@ module _ (t : Term) (v s : ℕ) (preds heads b : List ℕ) (k : ℕ) (own : Orde
               (session_is (project_of p (variant_at t u)) mark row there).is_active),
         )
 
-    variant_of_lem : (e : ℕ) → e < k → by_entry e ≡ true → (u : ℕ) × (u < v) × (by_variant_lem u ≡ true)
-    unfolding by_entry by_variant_lem
+    variant_of_lem : (e : ℕ) → e < k → by_entry e ≡ true → (u : ℕ) × (u < v) × (by_variant u ≡ true)
+    unfolding by_entry by_variant
     variant_of_lem e l y =
         let under : Bool = active (under_order (project_in table) (order_at b e)) (starts_of row) in
         let like : present_at b e ≡ present_at b (k - 1) =
@@ -263,11 +263,11 @@ module _ (t : Term) (v s : ℕ) (preds heads b : List ℕ) (k : ℕ) (own : Orde
         (λ z. ap not z))
 
     pub new_by_book : is_new_by (project_in table) k b row ≡ is_new p t v row
-    unfolding is_new_by is_new by_entry by_variant_lem
+    unfolding is_new_by is_new by_entry by_variant
     new_by_book =
         same_bool (is_new_by (project_in table) k b row) (is_new p t v row)
-        (none_of k v by_entry by_variant_lem entry_of)
-        (none_of v k by_variant_lem by_entry variant_of_lem)
+        (none_of k v by_entry by_variant entry_of)
+        (none_of v k by_variant by_entry variant_of_lem)
 
   -- Its order becomes an entry.
   pub entered_next : {heads' b' : List ℕ} → Entered s preds heads b heads' b' → Booked t (v + 1) heads' b'

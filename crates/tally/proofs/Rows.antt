@@ -346,9 +346,9 @@ module _ (t w cells : List ℕ) where
         ≡ is_before (variant_of t ∷ ours) (their_variant ∷ theirs)
     same_end = same_first our_end their_end (variant_of t ∷ ours) (their_variant ∷ theirs) same
 
-    pub by_variant_lem : (variant_of t ≡ their_variant → ⊥)
+    pub by_variant : (variant_of t ≡ their_variant → ⊥)
         → ltb (variant_of t) their_variant ≡ is_before (rank_in t w) (rank_kept (tally_of cells))
-    by_variant_lem ne = sym (same_end ∙ other_first (variant_of t) their_variant ours theirs ne)
+    by_variant ne = sym (same_end ∙ other_first (variant_of t) their_variant ours theirs ne)
 
     pub by_starts : variant_of t ≡ their_variant
         → is_before ours theirs ≡ is_before (rank_in t w) (rank_kept (tally_of cells))

@@ -1,24 +1,22 @@
 -- A plan of the first edition: a component is the activities of one resource, and spelt out in units its plan is
--- answered alike by READ, CHECK, SHEET, LIST and BEST.
+-- answered alike by READ, CHECK, LIST and BEST.
 use Prim.Native.Nat.{ℕ, ◌<◌}
 use native.Mathlib.Omega.{arith}
-use mathlib.Core.Bool.{Bool, true, false, cond}
+use mathlib.Core.Bool.{Bool, true, false}
 use mathlib.Core.List.{List}
 use mathlib.Core.Logic.{◌↔◌}
 use mathlib.Core.Path.{◌≡◌, refl, sym, ap, ◌∙◌}
 use borrow.Author.Tests.{ltb-true, lt-ltb, eqb-true, eq-eqb}
-use lib.Dec.{ltb, eqb}
+use lib.Dec.{leb, ltb, eqb}
 use lib.ListN.{length}
 use Rattle.base.proofs.Bools.{by_bool, cond_true, cond_false}
 use Rattle.plan.specs.Limits.{says_units}
-use Rattle.plan.specs.Outcome.{turned_back}
 use Rattle.plan.specs.Plan.{Plan, is_plan}
-use Rattle.plan.specs.declared.Refusal.TheVariants.{NoSuchVariant}
 use Rattle.format.specs.Text.{text}
 use Rattle.term.specs.Term.{Term}
 use Rattle.term.specs.Valid.{Valid}
 use Rattle.term.specs.Variants.{variant_count}
-use Rattle.variant.specs.Project.{units_at, variant_at, project_of}
+use Rattle.variant.specs.Project.{units_at, project_of}
 use Rattle.variant.specs.Pairs.{is_new, pairs, pair_count}
 use Rattle.variant.specs.Timetable.{is_session}
 use Rattle.variant.specs.Words.{resource_of}
@@ -27,17 +25,12 @@ use Rattle.variant.proofs.Instance.{own_at, own_units}
 use Rattle.variant.proofs.FirstEdition.{second, in_units_is, in_units_valid}
 use Rattle.scan.specs.Components.{component_of}
 use Rattle.scan.proofs.Components.{component_joint, component_alone}
-use Rattle.judge.specs.Call.{by_verdict}
 use Rattle.judge.specs.Judge.{Verdict, accepts, judge}
 use Rattle.judge.proofs.Accepts.{accepted_valid, valid_accepted}
-use Rattle.read.specs.Answer.{read_plan, read_of}
-use Rattle.read.specs.declared.ReadAnswer.TheVariants as Read
-use Rattle.inspect.specs.Answer.{Finding, session, none, find_variant, find_plan, finding_of, check_by, check_of}
-use Rattle.inspect.specs.Answer as Found
-use Rattle.sheet.specs.Answer.{sheet_by, sheet_of}
-use Rattle.answers.specs.Listed.{list_plan, list_of}
-use Rattle.answers.specs.Shortest.{shortest_pairs, shortest_count, first_shortest, no_best, best_plan, best_of}
-use Rattle.answers.specs.declared.ListAnswer.TheVariants as Listing
+use Rattle.read.specs.Answer.{answer_to, read_of}
+use Rattle.inspect.specs.Answer.{check_variant, check_by, check_of}
+use Rattle.answers.specs.Listed.{cells_needed, list_within, list_by, list_of}
+use Rattle.answers.specs.Shortest.{shortest_pairs, shortest_count, first_shortest, best_within, best_by, best_of}
 
 -- An activity holds units of its own resource and of no other.
 module _ (p : Plan) (valid : is_plan p ≡ true) (first : p.edition ≡ 1) where
@@ -77,30 +70,31 @@ module _ (p : Plan) (valid : is_plan p ≡ true) (first : p.edition ≡ 1) where
 
 -- The answers to an accepted plan ask nothing of its edition.
 module _ (p : Plan) (t : Term) where
-  list_second : (cap : ℕ) (area : List ℕ) → list_plan cap area (second p) t ≡ list_plan cap area p t
+  same_check_lem : (below : Bool) (v : ℕ) (row : List ℕ)
+      → check_variant below (second p) t v row ≡ check_variant below p t v row
+  unfolding is_session project_of
+  same_check_lem true v row = refl
+  same_check_lem false v row = refl
+
+  same_list_lem : (capped fits : Bool) (area : List ℕ)
+      → list_within capped fits (second p) t area ≡ list_within capped fits p t area
   unfolding project_of is_new pairs pair_count
-  list_second cap area = refl
+  same_list_lem false fits area = refl
+  same_list_lem true false area = refl
+  same_list_lem true true area = refl
 
-  best_second : (cap : ℕ) → best_plan cap (second p) t ≡ best_plan cap p t
+  same_best_lem : (capped : Bool) → best_within capped (second p) t ≡ best_within capped p t
   unfolding project_of is_new pairs pair_count shortest_pairs shortest_count first_shortest
-  best_second cap = refl
+  same_best_lem true = refl
+  same_best_lem false = refl
 
-  -- Nor does what is made of a finding.
-  module _ {A : Type 0} (answer : Finding → A)
-      (same : (w : Term) → answer (session (second p) w) ≡ answer (session p w)) where
-    by_session : (w : Term) (b : Bool) → answer (cond b (session (second p) w) none) ≡ answer (cond b (session p w) none)
-    by_session w true = same w
-    by_session w false = refl
+  list_second : (cap : ℕ) (area : List ℕ) → list_by (accepts (second p) t) cap area ≡ list_by (accepts p t) cap area
+  unfolding project_of is_new pairs pair_count
+  list_second cap area = same_list_lem (leb (pair_count p t) cap) (leb (cells_needed p t) (length area)) area
 
-    by_variant_lem : (row : List ℕ) (w : Term) (b : Bool)
-        → answer (cond b (find_variant row (second p) w) (Found.refuses NoSuchVariant))
-        ≡ answer (cond b (find_variant row p w) (Found.refuses NoSuchVariant))
-    unfolding is_session project_of
-    by_variant_lem row w true = by_session w (is_session p w row)
-    by_variant_lem row w false = refl
-
-    found_second : (v : ℕ) (row : List ℕ) → answer (find_plan v row (second p) t) ≡ answer (find_plan v row p t)
-    found_second v row = by_variant_lem row (variant_at t v) (ltb v (variant_count t))
+  best_second : (cap : ℕ) → best_by (accepts (second p) t) cap ≡ best_by (accepts p t) cap
+  unfolding project_of is_new pairs pair_count
+  best_second cap = same_best_lem (leb (pair_count p t) cap)
 
 module _ (s : List ℕ) (p : Plan) (t : Term) (accepted : judge s ≡ accepts p t) (first : p.edition ≡ 1) where
   valid : Valid p t
@@ -118,29 +112,16 @@ module _ (s : List ℕ) (p : Plan) (t : Term) (accepted : judge s ≡ accepts p 
 
   pub units_read : read_of (text (in_units p)) ≡ read_of s
   unfolding read_of
-  units_read = alike (by_verdict Read.Refused read_plan) refl
-
-  found_alike : {A : Type 0} (answer : Finding → A)
-      → ((w : Term) → answer (session (second p) w) ≡ answer (session p w)) → (v : ℕ) (row : List ℕ)
-      → answer (finding_of (text (in_units p)) v row) ≡ answer (finding_of s v row)
-  unfolding finding_of
-  found_alike answer same v row =
-      alike (λ o. answer (by_verdict Found.refuses (find_plan v row) o)) (found_second p t answer same v row)
+  units_read = alike answer_to refl
 
   pub units_check : (v : ℕ) (timetable : List ℕ) → check_of (text (in_units p)) v timetable ≡ check_of s v timetable
   unfolding check_of
-  units_check = found_alike check_by (λ w. refl)
-
-  pub units_sheet : (v : ℕ) (timetable area : List ℕ)
-      → sheet_of (text (in_units p)) v timetable area ≡ sheet_of s v timetable area
-  unfolding sheet_of project_of
-  units_sheet v row area = found_alike (sheet_by row area) (λ w. refl) v row
+  units_check v row = alike (λ o. check_by o v row) (same_check_lem p t (ltb v (variant_count t)) v row)
 
   pub units_list : (cap : ℕ) (area : List ℕ) → list_of (text (in_units p)) cap area ≡ list_of s cap area
   unfolding list_of
-  units_list cap area =
-      alike (by_verdict (turned_back Listing.Refused area) (list_plan cap area)) (list_second p t cap area)
+  units_list cap area = alike (λ o. list_by o cap area) (list_second p t cap area)
 
   pub units_best : (cap : ℕ) → best_of (text (in_units p)) cap ≡ best_of s cap
   unfolding best_of
-  units_best cap = alike (by_verdict no_best (best_plan cap)) (best_second p t cap)
+  units_best cap = alike (λ o. best_by o cap) (best_second p t cap)

@@ -1,9 +1,11 @@
 -- What BEST answers, in the words of the mission.
 use Prim.Native.Nat.{ℕ, ◌≤◌, ◌<◌}
 use native.Mathlib.Omega.{arith}
+use mathlib.Core.Bool.{Bool}
 use mathlib.Core.List.{List, ◌∷◌, map, perm_ext_iff_of_Nodup}
 use mathlib.Core.Logic.{◌↔◌, ∥∥₁_map}
 use mathlib.Core.Path.{◌≡◌, refl, sym, ap, ◌∙◌, subst}
+use borrow.Author.Tests.{le-leb, lt-leb}
 use lib.ListN.{length-map}
 use Rattle.base.proofs.Lists.{perm_length}
 use Rattle.plan.specs.Plan.{Plan}
@@ -19,8 +21,8 @@ use Rattle.variant.specs.Project.{variant_at, project_of}
 use Rattle.variant.specs.Timetable.{timetable_of}
 use Rattle.variant.specs.Words.{Keeps, Makespan}
 use Rattle.variant.proofs.Words.{variant_inside, keeps_means, session_means}
-use Rattle.judge.proofs.Call.{cap_allows, cap_refuses}
-use Rattle.answers.specs.Shortest.{makespan_in, row_starts, first_shortest, best_row, no_best, best_plan}
+use Rattle.judge.specs.Judge.{accepts}
+use Rattle.answers.specs.Shortest.{makespan_in, row_starts, first_shortest, best_row, no_best, best_within, best_by}
 use Rattle.plan_exact.proofs.Meaning.{makespan_words, pairs_listing, best_first}
 use Rattle.plan_exact.proofs.Pairs.{pair_is, pair_checks, pair_span}
 use Rattle.plan_exact.proofs.Shortest.{First, first_shortest_lem, first_active, first_least, first_chains, first_loads}
@@ -124,8 +126,8 @@ module _ (p : Plan) (t : Term) (valid : Valid p t) where
       let r = (best_first p t valid).one_of in
       (r.variant, r.starts, r.whole, subst (First p t) r.whole (first_shortest_lem p t valid))
 
-  pub over : (cap : ℕ) → cap < pair_count p t → best_plan cap p t ≡ no_best OverCap
-  over cap = cap_refuses no_best (best_row p t (first_shortest p t)) (pair_count p t) cap
+  pub over : (cap : ℕ) → cap < pair_count p t → best_by (accepts p t) cap ≡ no_best OverCap
+  over cap l = ap (λ (b : Bool). best_within b p t) (lt-leb (pair_count p t) cap l)
 
-  pub within : (cap : ℕ) → pair_count p t ≤ cap → best_plan cap p t ≡ best_row p t (first_shortest p t)
-  within cap = cap_allows no_best (best_row p t (first_shortest p t)) (pair_count p t) cap
+  pub within : (cap : ℕ) → pair_count p t ≤ cap → best_by (accepts p t) cap ≡ best_row p t (first_shortest p t)
+  within cap l = ap (λ (b : Bool). best_within b p t) (le-leb (pair_count p t) cap l)

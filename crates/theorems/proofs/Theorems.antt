@@ -1,6 +1,6 @@
 -- What is proved of the calls: one theorem for each demand, as the mission words it. Each speaks of the contracts of
 -- the calls, which every function of the program is proved to meet.
-use Prim.Native.Nat.{ℕ, ◌^◌, ◌≤◌, ◌<◌}
+use Prim.Native.Nat.{ℕ, ◌≤◌, ◌<◌}
 use native.Mathlib.Decide.{dec_le}
 use native.Mathlib.Omega.{arith}
 use mathlib.Core.Bool.{true}
@@ -11,11 +11,9 @@ use mathlib.Core.Option.{some}
 use lib.ListN.{length, take}
 use Rattle.base.specs.Lists.{every}
 use Rattle.plan.specs.Limits.{longest_of, longest, is_edition}
-use Rattle.plan.specs.Outcome.{Outcome}
 use Rattle.plan.specs.Plan.{Plan, Node, is_node}
 use Rattle.plan.specs.declared.Refusal.{Refusal}
 use Rattle.plan.specs.declared.Refusal.TheVariants.{NotOneTerm, Twice, TooManyVariants, OverCap}
-use Rattle.format.specs.Lines.{is_digit, decimal}
 use Rattle.format.specs.Text.{text}
 use Rattle.format.proofs.Longest.{longest_plan}
 use Rattle.timetable.specs.Mark.{mark}
@@ -42,8 +40,7 @@ use Rattle.variant.proofs.Dissolve.{dissolved_full}
 use Rattle.variant.proofs.FirstEdition.{load_time}
 use Rattle.variant.proofs.RoundTrip.{variant_full}
 use Rattle.variant.proofs.Words.{variant_inside, keeps_apart}
-use Rattle.judge.specs.Judge.{accepts, refuses, judge}
-use Rattle.judge.proofs.Call.{verdict_accepts}
+use Rattle.judge.specs.Judge.{Verdict, accepts, refuses, judge}
 use Rattle.judge.proofs.Accepts.{accepted_valid, valid_accepted, accepted_short, longest_term, longest_accepted}
 use Rattle.read.specs.Answer.{read_of}
 use Rattle.write.specs.Answer.{write_of}
@@ -54,17 +51,8 @@ use Rattle.inspect.specs.Answer.{check_of}
 use Rattle.inspect.specs.Words.{SessionOf}
 use Rattle.inspect.specs.declared.CheckAnswer.TheVariants.{Checked}
 use Rattle.inspect.proofs.Meaning.{check_yes}
-use Rattle.sheet.specs.Sheet.{digits}
-use Rattle.sheet.specs.Answer.{sheet_of}
-use Rattle.sheet.specs.Words.{IsSheet, NoSheet}
-use Rattle.sheet.specs.declared.SheetAnswer.{SheetAnswer}
-use Rattle.sheet.specs.declared.SheetAnswer.TheVariants.{Drawn, NotDrawable}
-use Rattle.sheet.proofs.Size.{digits_length}
-use Rattle.sheet.proofs.WordsNumbers.{digits_value, digits_all}
-use Rattle.sheet.proofs.Meaning.{drawn_sheet, not_drawable_lem, no_sheet_left}
 use Rattle.answers.specs.Listed.{list_of}
-use Rattle.answers.specs.Shortest.{makespan_in, row_variant, row_span, shortest_count, first_shortest, no_best}
-use Rattle.answers.specs.Shortest.{best_row, best_plan}
+use Rattle.answers.specs.Shortest.{makespan_in, row_variant, row_span, shortest_count, first_shortest, best_row, best_by}
 use Rattle.answers.specs.Shortest.{best_of}
 use Rattle.answers.specs.Words.{Listing, ListingOf, FirstShortest, ShortestRows}
 use Rattle.answers.specs.declared.Best.{Best}
@@ -78,8 +66,8 @@ use Rattle.theorems.specs.TurnedBack.{TurnedBack, Untouched}
 use Rattle.theorems.specs.Unfit.{NotWhole, HasTwice, HasTooMany}
 use Rattle.theorems.specs.Shortest.{ActiveSessions, ShortestSession, Between}
 use Rattle.theorems.proofs.FirstEdition.{component_resource, units_accepted, units_read, units_check}
-use Rattle.theorems.proofs.FirstEdition.{units_sheet, units_list, units_best}
-use Rattle.theorems.proofs.Refused.{turned_back_lem, unfit_turned_back, untouched}
+use Rattle.theorems.proofs.FirstEdition.{units_list, units_best}
+use Rattle.theorems.proofs.Refused.{turned_back, unfit_turned_back, untouched}
 use Rattle.theorems.proofs.Unfit.{not_whole, has_twice, has_too_many}
 use Rattle.theorems.proofs.Shortest.{active_count, active_sessions, shortest_words, shortest_between, row_first}
 use Rattle.theorems.proofs.Shortest.{over, within}
@@ -138,9 +126,9 @@ unfolding best_of
 demand_3 s p t accepted n active cap =
     let valid : Valid p t = (accepted_valid s p t accepted).0 in
     let count : n ≡ pair_count p t = active_count p t valid n active in
-    let is = verdict_accepts no_best (best_plan cap) s p t accepted in
+    let is = ap (λ (o : Verdict). best_by o cap) accepted in
     let (v, ss, row, first) = row_first p t valid in
-    let found : n ≤ cap → best_of s cap ≡ best_row p t (v ∷ ss) =
+    let found : n ≤ cap → best_by (judge s) cap ≡ best_row p t (v ∷ ss) =
     λ l. is ∙ within p t valid cap (omega arith) ∙ ap (best_row p t) row in (
       (
         λ refused.
@@ -191,7 +179,7 @@ first_shortest_row s p t accepted cap l =
     let valid : Valid p t = (accepted_valid s p t accepted).0 in
     let (v, ss, whole, first) = row_first p t valid in (
       first_shortest p t,
-      verdict_accepts no_best (best_plan cap) s p t accepted ∙ within p t valid cap l,
+      ap (λ (o : Verdict). best_by o cap) accepted ∙ within p t valid cap l,
       best_first p t valid,
       subst (λ (row : List ℕ). Between p t (row_variant row) (row_span p t row)) (sym whole)
           (shortest_between p t valid v ss first),
@@ -225,21 +213,19 @@ pub first_edition_component : (p : Plan) (t : Term) (v : ℕ) → HasVariant p t
 first_edition_component p t v c first = component_resource p c.valid.ranges first (variant_at t v)
 
 -- A plan of the first edition spelt as `plan=2` is accepted with the same term, and has the same listing and the same
--- BEST, whatever the cap. READ, CHECK and SHEET answer the same too.
+-- BEST, whatever the cap. READ and CHECK answer the same too.
 pub first_edition_spelt : (s : List ℕ) (p : Plan) (t : Term) → judge s ≡ accepts p t → p.edition ≡ 1
     → (judge (text (in_units p)) ≡ accepts (in_units p) t)
     × ((cap : ℕ) (area : List ℕ) → list_of (text (in_units p)) cap area ≡ list_of s cap area)
     × ((cap : ℕ) → best_of (text (in_units p)) cap ≡ best_of s cap)
     × (read_of (text (in_units p)) ≡ read_of s)
     × ((v : ℕ) (timetable : List ℕ) → check_of (text (in_units p)) v timetable ≡ check_of s v timetable)
-    × ((v : ℕ) (timetable area : List ℕ) → sheet_of (text (in_units p)) v timetable area ≡ sheet_of s v timetable area)
 first_edition_spelt s p t accepted first = (
   units_accepted s p t accepted first,
   units_list s p t accepted first,
   units_best s p t accepted first,
   units_read s p t accepted first,
   units_check s p t accepted first,
-  units_sheet s p t accepted first,
 )
 
 -- Which files are accepted: exactly the texts of valid plans.
@@ -251,7 +237,7 @@ accepted_texts s p t = (
 
 -- A file that the judgement refuses is turned back so by every call, with the refusal's number and figure.
 pub refused_file : (s : List ℕ) (r : Refusal) → judge s ≡ refuses r → TurnedBack s r
-refused_file = turned_back_lem
+refused_file = turned_back
 
 -- What 4, 5 and 6 mean: the nodes are not one whole term; some variant has an activity twice; none has, and there are
 -- more than 4096 variants.
@@ -271,28 +257,6 @@ pub listed_sessions : (p : Plan) (t : Term) → Valid p t → (v : ℕ) (starts 
     → Memᴰ (v ∷ starts) (pairs p t)
     → is_session p (variant_at t v) (timetable_of p starts) ≡ true
 listed_sessions = pair_checks
-
--- What SHEET leaves in the area when it answers n: the sheet of a session of the variant, of 6 + 68 R bytes, its c being
--- the least; a cell says exactly one activity, several or none, also of one that runs there on a single tick.
-pub sheet_drawn : (s : List ℕ) (v : ℕ) (timetable : List ℕ) (n : ℕ) (before after : List ℕ)
-    → sheet_of s v timetable before ≡ record { answer = Drawn n; area = after }
-    → IsSheet s v timetable n before after
-sheet_drawn = drawn_sheet
-
--- It is not drawable exactly where the timetable is no session of the variant or c has more than five digits; then the
--- area is as it stood.
-pub sheet_not_drawable : (s : List ℕ) (v : ℕ) (timetable area : List ℕ)
-    → (((sheet_of s v timetable area).answer ≡ NotDrawable) ↔ NoSheet s v timetable)
-    × (NoSheet s v timetable → (sheet_of s v timetable area).area ≡ area)
-sheet_not_drawable s v timetable area = (
-  not_drawable_lem s v timetable area,
-  λ none. ap (λ (o : Outcome SheetAnswer). o.area) (no_sheet_left s v timetable area none),
-)
-
--- The digits of a number are so many decimal digits that say it.
-pub digits_say : (k n : ℕ) → n < 10 ^ k
-    → (length (digits k n) ≡ k) × (every is_digit (digits k n) ≡ true) × (decimal 0 (digits k n) ≡ n)
-digits_say k n small = (digits_length k n, digits_all k n, digits_value k n small)
 
 -- No accepted file is longer than the limit of its edition, 983 or 2175 bytes, and so than the longest of any.
 pub longest_file_lem : (s : List ℕ) (p : Plan) (t : Term) → judge s ≡ accepts p t

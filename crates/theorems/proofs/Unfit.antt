@@ -25,11 +25,11 @@ use Rattle.term.proofs.Twice.{twice_means}
 use Rattle.judge.specs.Judge.{accepts, refuses, judge, judge_result, judge_term, judge_variants}
 use Rattle.theorems.specs.Unfit.{TextOf, NotWhole, Whole, HasTwice, HasTooMany}
 
-same_refusal : {q r : Refusal} → refuses q ≡ refuses r → q ≡ r
-same_refusal e = cc
+same_refusal_lem : {q r : Refusal} → refuses q ≡ refuses r → q ≡ r
+same_refusal_lem e = cc
 
 other_number : {A : Type 0} {q r : Refusal} → refuses q ≡ refuses r → (number_of q ≡ number_of r → ⊥) → A
-other_number e h = absurd (h (ap number_of (same_refusal e)))
+other_number e h = absurd (h (ap number_of (same_refusal_lem e)))
 
 never : {A : Type 0} {p : Plan} {t : Term} {r : Refusal} → accepts p t ≡ refuses r → A
 never e = absurd (let z : ◌≡◌ {A = ℕ} 0 1 = cc in omega arith)
@@ -50,7 +50,7 @@ module _ (s : List ℕ) where
       go (Parse.holds p) h e =
           let (ranges, same) = parse_text s p h in (p, record { ranges = ranges; same = same }, e)
       go (Parse.refuses q) h e =
-          true_not_false late (parse_early s r (h ∙ ap Parse.refuses (same_refusal e)))
+          true_not_false late (parse_early s r (h ∙ ap Parse.refuses (same_refusal_lem e)))
 
   whole_judged : (p : Plan) (t : Term) → Whole s p t
       → judge s ≡ judge_variants p t (twice t) (ltb most_variants (variant_count t))

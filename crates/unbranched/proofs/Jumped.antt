@@ -25,7 +25,7 @@ use Rattle.steps.specs.Steps.{never, Moves, running_in, waiting_in, loose_in, fi
 use Rattle.steps.specs.Shown.{Shows}
 use Rattle.steps.specs.declared.Line.{Line}
 use Rattle.steps.proofs.Given.{has_is}
-use Rattle.steps.proofs.Sets.{loose_of, loose_is, loose_there, waiting_of, left_of_lem, loose_shown}
+use Rattle.steps.proofs.Sets.{loose_of, loose_is, loose_there, waiting_of, left_of, loose_shown}
 use Rattle.steps.proofs.Moved.{finish_fits, loose_end, moved_frozen, moved_running, moved_loose}
 use Rattle.steps.proofs.Moved.{due_is, shows_later}
 use Rattle.unbranched.specs.Position.{bound_of, Position, is_running_on, running_on, Leads, Onward}
@@ -44,7 +44,7 @@ module _ (t : List ℕ) (given : Instance t) (l : Line) (w : List ℕ) (d : Diag
 
   open_loose : (i : ℕ) → Open (project_in t) d.frozen i → has (loose_in l) i ≡ true
   open_loose i o =
-      all_loose i (left_of_lem t given l w d at.shows d.tick at.stands i (has_is t given i o.has) o.waits)
+      all_loose i (left_of t given l w d at.shows d.tick at.stands i (has_is t given i o.has) o.waits)
 
   placed_there : (i : ℕ) → has (loose_in l) i ≡ true → (d.placed i ≡ true) × (d.frozen i ≡ false)
   placed_there = loose_shown t given l w d at.shows d.tick at.stands
@@ -158,7 +158,7 @@ module _ (t : List ℕ) (given : Instance t) (l : Line) (w : List ℕ) (d : Diag
             by_bool (d.frozen k) (at.stands.within k)
             (λ z.
             (placed_there k
-            (all_loose k (left_of_lem t given l w d at.shows d.tick at.stands k (has_is t given k h) z))).0))
+            (all_loose k (left_of t given l w d at.shows d.tick at.stands k (has_is t given k h) z))).0))
             (λ k loose.
             let y : has (loose_in l) k ≡ true =
             loose_there t given l w d at.shows d.tick at.stands k

@@ -23,7 +23,7 @@ use Rattle.term.proofs.Reading.{plan_full}
 use Rattle.term.proofs.Twice.{member_found, member_is}
 use Rattle.timetable.specs.Mark.{mark, places}
 use Rattle.schedule.specs.Project.{Project}
-use Rattle.schedule.specs.Schedule.{Starts, runs, load, latest_end, feasible, makespan, moved}
+use Rattle.schedule.specs.Schedule.{Starts, runs, load, feasible, makespan, moved}
 use Rattle.schedule.specs.Sessions.{starts_of}
 use Rattle.schedule.specs.Words.{InWords}
 use Rattle.schedule.proofs.Agree.{Feasible-agree}
@@ -36,7 +36,7 @@ use Rattle.variant.specs.Precedence.{precedes, within_one, earlier}
 use Rattle.variant.specs.Project.{units_at, variant_at, project_of}
 use Rattle.variant.specs.Timetable.{is_marked, is_session}
 use Rattle.variant.specs.Words.{Present, Precedes, PrecedesInOne, Earlier, Running, Keeps, resource_of, KeepsApart}
-use Rattle.variant.specs.Words.{Makespan, LatestEnd, IsActive, MarksAbsent, Session}
+use Rattle.variant.specs.Words.{Makespan, IsActive, MarksAbsent, Session}
 use Rattle.variant.proofs.Instance.{bench, has_of, has_member}
 use Rattle.variant.proofs.Members.{or_elim, or_left, or_right}
 use Rattle.variant.proofs.RoundTrip.{variant_below, variant_full}
@@ -286,26 +286,6 @@ module _ (p : Plan) (w : Term) (inside : (i : ℕ) → Present w i → i < lengt
 
     pub makespan_means : (i : ℕ) → Present w i → (n : ℕ) → (n ≡ makespan P S) ↔ Makespan p w S n
     makespan_means i m n = (λ e. subst (Makespan p w S) (sym e) (span_words i m), words_span n)
-
-    -- The latest end.
-    pub latest_words : (i : ℕ) → Present w i → LatestEnd p w S (latest_end P S)
-    unfolding project_of
-    latest_words i m =
-        let (l, g, q) = latest_reached P S i (has i m) in
-        record { last = l; ends = present l g; is = sym q; latest = λ j n. end_le P S j (has j n) }
-
-    words_latest : (n : ℕ) → LatestEnd p w S n → n ≡ latest_end P S
-    unfolding project_of
-    words_latest n e =
-        omega (
-          arith,
-          e.is,
-          end_le P S e.last (has e.last e.ends),
-          ends_least P S n (λ j g. e.latest j (present j g)),
-        )
-
-    pub latest_means : (i : ℕ) → Present w i → (n : ℕ) → (n ≡ latest_end P S) ↔ LatestEnd p w S n
-    latest_means i m n = (λ e. subst (LatestEnd p w S) (sym e) (latest_words i m), words_latest n)
 
   -- Active.
   module _ (S : Starts) where

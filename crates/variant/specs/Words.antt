@@ -75,13 +75,6 @@ pub record Makespan (p : Plan) (w : Term) (S : Starts) (n : ℕ) : Type 0 where
   pub latest : (i : ℕ) → Present w i → end_in p S i ≤ end_in p S last
   pub between : S first + n ≡ end_in p S last
 
--- n is the latest end.
-pub record LatestEnd (p : Plan) (w : Term) (S : Starts) (n : ℕ) : Type 0 where
-  pub last : ℕ
-  pub ends : Present w last
-  pub is : end_in p S last ≡ n
-  pub latest : (i : ℕ) → Present w i → end_in p S i ≤ n
-
 -- A feasible session in which no single start can be made smaller, the others unchanged, so that it remains feasible.
 pub record IsActive (p : Plan) (w : Term) (S : Starts) : Type 0 where
   pub keeps : Keeps p w S

@@ -1,3 +1,2 @@
--- What the exported calls leave in the lent cells and areas.
+-- What the exported calls leave in the lent cells.
 pub mod Cells
-pub mod Calls

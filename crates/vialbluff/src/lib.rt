@@ -1,20 +1,20 @@
 // The calls for C and Rust, kept to numbers and slices. Each fills `out`: 0 and the values on success, else the
 // refusal's number and figure.
-ghost use Rattle.std.specs.Prelude.{[], ◌≡◌};
-ghost use Rattle.vialbluff.specs.Cells.{refusal_cells, read_cells, write_cells, check_cells, sheet_cells, list_cells};
-ghost use Rattle.vialbluff.specs.Cells.{best_cells};
-ghost use Rattle.vialbluff.specs.Calls.{read, write, check, sheet, list, best, starts_kept, left_of};
+ghost use Rattle.std.specs.Prelude.{◌≡◌};
+ghost use Rattle.read.specs.Answer.{read_of};
+ghost use Rattle.inspect.specs.Answer.{check_of};
+ghost use Rattle.vialbluff.specs.Cells.{refusal_cells, read_cells, write_cells, check_cells, list_cells};
+ghost use Rattle.vialbluff.specs.Cells.{best_cells, starts_kept, WriteLeaves, ListLeaves, BestLeaves};
 
 use answers::{BestAnswer, ListAnswer};
 use inspect::CheckAnswer;
 use plan::{MOST_ACTS, Refusal};
 use read::ReadAnswer;
-use sheet::SheetAnswer;
 use timetable::Timetable;
 use write::WriteAnswer;
 
 fn refused(r: Refusal) -> [u64; 4]
-    ensures { result ≡ refusal_cells 4 r }
+    ensures { result ≡ refusal_cells r }
 {
     [plan::number(r), plan::figure(r), 0, 0]
 }
@@ -47,16 +47,6 @@ fn of_check(a: CheckAnswer) -> [u64; 4]
     match a {
         CheckAnswer::Checked(yes) => { if yes { [0, 1, 0, 0] } else { [0, 0, 0, 0] } }
         CheckAnswer::Refused(r) => refused(r),
-    }
-}
-
-fn of_sheet(a: SheetAnswer) -> [u64; 4]
-    ensures { result ≡ sheet_cells a }
-{
-    match a {
-        SheetAnswer::Drawn(bytes) => [0, bytes, 0, 0],
-        SheetAnswer::NotDrawable => [0, 0, 0, 0],
-        SheetAnswer::Refused(r) => refused(r),
     }
 }
 
@@ -100,15 +90,14 @@ fn starts_of(a: BestAnswer, found: [u32; MOST_ACTS], before: [u32; MOST_ACTS]) -
 
 #[unsafe(no_mangle)]
 pub extern "C" fn vialbluff_read(file: &[u8], out: &mut [u64; 4])
-    ensures { record { cells = out.new; area = [] } ≡ left_of read file.now [] }
+    ensures { out.new ≡ read_cells (read_of file.now) }
 {
     *out = of_read(read::read(file));
 }
 
 #[unsafe(no_mangle)]
 pub extern "C" fn vialbluff_write(file: &[u8], variant: u32, area: &mut [u8], out: &mut [u64; 4])
-    ensures { record { cells = out.new; area = area.new }
-        ≡ left_of (write variant) file.now area.old }
+    ensures { WriteLeaves file.now variant area.old area.new out.new }
 {
     *out = of_write(write::write(file, variant, area));
 }
@@ -120,32 +109,15 @@ pub extern "C" fn vialbluff_check(
     starts: &[u32; MOST_ACTS],
     out: &mut [u64; 4],
 )
-    ensures { record { cells = out.new; area = [] }
-        ≡ left_of (check variant starts.now) file.now [] }
+    ensures { out.new ≡ check_cells (check_of file.now variant starts.now) }
 {
     let given = *starts;
     *out = of_check(inspect::check(file, variant, Timetable { starts: given }));
 }
 
 #[unsafe(no_mangle)]
-pub extern "C" fn vialbluff_sheet(
-    file: &[u8],
-    variant: u32,
-    starts: &[u32; MOST_ACTS],
-    area: &mut [u8],
-    out: &mut [u64; 4],
-)
-    ensures { record { cells = out.new; area = area.new }
-        ≡ left_of (sheet variant starts.now) file.now area.old }
-{
-    let given = *starts;
-    *out = of_sheet(sheet::sheet(file, variant, Timetable { starts: given }, area));
-}
-
-#[unsafe(no_mangle)]
 pub extern "C" fn vialbluff_list(file: &[u8], cap: u32, area: &mut [u32], out: &mut [u64; 4])
-    ensures { record { cells = out.new; area = area.new }
-        ≡ left_of (list cap) file.now area.old }
+    ensures { ListLeaves file.now cap area.old area.new out.new }
 {
     *out = of_list(calls::list(file, cap, area));
 }
@@ -157,8 +129,7 @@ pub extern "C" fn vialbluff_best(
     starts: &mut [u32; MOST_ACTS],
     out: &mut [u64; 5],
 )
-    ensures { record { cells = out.new; area = starts.new }
-        ≡ left_of (best cap) file.now starts.old }
+    ensures { BestLeaves file.now cap starts.old starts.new out.new }
 {
     let best = calls::best(file, cap);
     let answer = best.answer;

@@ -2,14 +2,16 @@
 -- same precedence and the same schedules, and which is written out as the same bytes.
 use Prim.Native.Nat.{ℕ, ◌<◌}
 use native.Mathlib.Omega.{arith}
+use mathlib.Core.Bool.{Bool, true, false}
 use mathlib.Core.List.{List}
 use mathlib.Core.Path.{◌≡◌, refl, sym, ap, ◌∙◌, subst}
+use borrow.Author.Tests.{lt-ltb, ltb-true}
+use lib.Dec.{leb, ltb}
 use lib.ListN.{length, take, drop}
 use lib.Seq.{take_at}
-use Rattle.plan.specs.Outcome.{Outcome, turned_back, placed_in}
+use Rattle.plan.specs.Outcome.{Outcome}
 use Rattle.plan.specs.Plan.{Plan}
 use Rattle.plan.specs.declared.Refusal.{Refusal}
-use Rattle.plan.proofs.Outcome.{was_placed}
 use Rattle.term.specs.Term.{Term}
 use Rattle.term.specs.Variants.{variant_count, activities}
 use Rattle.schedule.specs.Project.{Project}
@@ -21,14 +23,13 @@ use Rattle.variant.proofs.Dissolve.{dissolved_activities, dissolved_precedes}
 use Rattle.term.specs.Valid.{HasVariant}
 use Rattle.variant.proofs.RoundTrip.{same_project, written_again, reads_dissolved, variant_plan_lem, variant_once_again}
 use Rattle.variant.proofs.RoundTrip.{variant_count_lem, variant_only}
-use Rattle.judge.specs.Judge.{accepts, judge}
+use Rattle.judge.specs.Judge.{Verdict, accepts, refuses, judge}
 use Rattle.judge.proofs.Accepts.{accepted_valid, valid_accepted}
-use Rattle.judge.proofs.Call.{was_accepted, had_variant}
 use Rattle.write.specs.declared.WriteAnswer.{WriteAnswer}
-use Rattle.write.specs.Answer.{write_variant, write_plan, write_of}
+use Rattle.write.specs.Answer.{placed_by, write_variant, write_by, write_of}
 use Rattle.write.specs.RoundTrip.{RoundTrip}
+use Rattle.write.specs.Steps.{placed_in}
 use Rattle.write.specs.declared.WriteAnswer.TheVariants.{Written, Refused}
-use Rattle.write.proofs.Writing.{writes_bytes}
 
 -- Variant v of a term with its nested groups dissolved, the plan of it, and the bytes that it is written out as.
 abbrev pub term_back : Term → ℕ → Term
@@ -91,16 +92,19 @@ module _ (s : List ℕ) (p : Plan) (t : Term) (v : ℕ) (e : judge s ≡ accepts
   written_feasible S = ap (λ (q : Project). feasible q S) written_project
 
   -- WRITE places the bytes in an area,
+  writes : (area : List ℕ) → write_of s v area ≡ placed_in area (bytes_of p t v)
+  unfolding write_of
+  writes area = rw (e, lt-ltb v (variant_count t) l)
+
   bytes_again : bytes_of (plan_back p t v) (term_back t v) 0 ≡ bytes_of p t v
   bytes_again = ap (written (plan_back p t v)) only ∙ written_again p (variant_at t v)
 
   -- and the same bytes for variant 0 of them, whatever the area is and what it holds.
   pub writes_again : (area : List ℕ) → write_of (bytes_of p t v) 0 area ≡ write_of s v area
+  unfolding write_of
   writes_again area =
       let one : 0 < variant_count (term_back t v) = omega (arith, written_count) in
-      sym (writes_bytes (bytes_of p t v) 0 area (plan_back p t v) (term_back t v) written_accepted one)
-      ∙ ap (λ (bytes : List ℕ). placed_in Refused Written bytes area) bytes_again
-      ∙ writes_bytes s v area p t e l
+      rw (written_accepted, lt-ltb 0 (variant_count (term_back t v)) one, bytes_again) (sym (writes area))
 
 -- The same said of WRITE's outcome alone.
 refused_not_written : {A : Type 0} {r : Refusal} {n : ℕ} → Refused r ≡ Written n → A
@@ -110,24 +114,23 @@ same_size : {m n : ℕ} → Written m ≡ Written n → m ≡ n
 same_size e = cc
 
 module _ (s : List ℕ) (v : ℕ) (area : List ℕ) (n : ℕ) (after : List ℕ) where
-  abbrev left : Outcome WriteAnswer
-  left = record { answer = Written n; area = after }
+  abbrev Left : Outcome WriteAnswer → Type 0
+  Left o = o ≡ record { answer = Written n; area = after }
 
-  not_refused : (r : Refusal) → turned_back Refused area r ≡ left → ⊥
-  not_refused r h = refused_not_written (ap (λ (o : Outcome WriteAnswer). o.answer) h)
+  bytes_placed : (fits : Bool) (bytes : List ℕ) → Left (placed_by fits bytes area) → bytes ≡ take n after
+  bytes_placed true bytes h =
+      let size = same_size (ap (λ (o : Outcome WriteAnswer). o.answer) h) in
+      sym (take_at bytes (drop (length bytes) area) n size) ∙ ap (λ (o : Outcome WriteAnswer). take n o.area) h
+  bytes_placed false bytes h = refused_not_written (ap (λ (o : Outcome WriteAnswer). o.answer) h)
 
-  bytes_placed : (bytes : List ℕ) → placed_in Refused Written bytes area ≡ left → bytes ≡ take n after
-  bytes_placed bytes h =
-      let done = (was_placed Refused Written bytes area left (λ r. refused_not_written) h).1 in
-      let size = same_size (ap (λ (o : Outcome WriteAnswer). o.answer) done) in
-      sym (take_at bytes (drop (length bytes) area) n size) ∙ ap (λ (o : Outcome WriteAnswer). take n o.area) done
-
-  pub round_trip : write_of s v area ≡ left → RoundTrip s v (take n after)
-  unfolding write_of
-  round_trip h =
-      let (p, t, e, by_plan) = was_accepted (turned_back Refused area) left not_refused (write_plan v area) s h in
-      let (l, by_variant_lem) = had_variant (turned_back Refused area) left not_refused (write_variant area p) t v by_plan in
-      subst (RoundTrip s v) (bytes_placed (bytes_of p t v) by_variant_lem) (record {
+  variant_written :
+      (b : Bool) (p : Plan) (t : Term) → ltb v (variant_count t) ≡ b → judge s ≡ accepts p t → Left
+      (write_variant b p t v area)
+      → RoundTrip s v (take n after)
+  variant_written false p t eb e h = refused_not_written (ap (λ (o : Outcome WriteAnswer). o.answer) h)
+  variant_written true p t eb e h =
+      let l = ltb-true v (variant_count t) eb in
+      subst (RoundTrip s v) (bytes_placed (leb (length (bytes_of p t v)) (length area)) (bytes_of p t v) h) (record {
         plan = p;
         term = t;
         accepted = e;
@@ -144,3 +147,11 @@ module _ (s : List ℕ) (v : ℕ) (area : List ℕ) (n : ℕ) (after : List ℕ)
         same_schedules = written_feasible s p t v e l;
         same_bytes = writes_again s p t v e l;
       })
+
+  verdict_written : (o : Verdict) → judge s ≡ o → Left (write_by o v area) → RoundTrip s v (take n after)
+  verdict_written (accepts p t) e h = variant_written (ltb v (variant_count t)) p t refl e h
+  verdict_written (refuses r) e h = refused_not_written (ap (λ (o : Outcome WriteAnswer). o.answer) h)
+
+  pub round_trip : write_of s v area ≡ record { answer = Written n; area = after } → RoundTrip s v (take n after)
+  unfolding write_of
+  round_trip h = verdict_written (judge s) refl h

@@ -1,29 +1,29 @@
 -- What the steps of WRITE make of the facts that their calls return.
 use Prim.Native.Nat.{ℕ, ◌≤◌, ◌<◌}
 use native.Mathlib.Omega.{arith}
+use mathlib.Core.Bool.{false}
 use mathlib.Core.List.{List}
-use mathlib.Core.Path.{◌≡◌, sym, ap, ◌∙◌}
+use mathlib.Core.Path.{◌≡◌, ap}
+use borrow.Author.Tests.{lt-ltb, le-ltb, le-leb, lt-leb}
+use lib.Dec.{leb}
 use lib.ListN.{length}
-use Rattle.plan.specs.Outcome.{Outcome, turned_back, placed_in}
-use Rattle.plan.specs.Plan.{Plan, plan_of}
+use Rattle.plan.specs.Outcome.{Outcome}
+use Rattle.plan.specs.Plan.{plan_of}
 use Rattle.plan.specs.declared.Refusal.{Refusal}
 use Rattle.plan.specs.declared.Refusal.TheVariants.{NoSuchVariant, AreaTooShort}
 use Rattle.plan.specs.declared.Tables.{Tables}
-use Rattle.plan.proofs.Outcome.{placed_whole, placed_short}
 use Rattle.format.specs.Text.{text}
 use Rattle.term.specs.Term.{Term}
 use Rattle.term.specs.Variants.{variant_count}
-use Rattle.variant.specs.Project.{variant_at}
 use Rattle.variant.specs.Written.{variant_plan, written}
 use Rattle.pick.specs.Picked.{Picks}
 use Rattle.pick.specs.declared.Picked.{Picked}
 use Rattle.judge.specs.Judge.{judge, accepts, refuses}
-use Rattle.judge.specs.Campaign.{HoldsVariant}
+use Rattle.judge.specs.Campaign.{HoldsPlan, HoldsVariant}
 use Rattle.judge.specs.declared.Campaign.{Campaign}
-use Rattle.judge.proofs.Call.{verdict_accepts, verdict_refuses, variant_there, variant_absent}
 use Rattle.writer.specs.Wrote.{HoldsText}
-use Rattle.write.specs.Answer.{write_variant, write_plan, write_of}
-use Rattle.write.specs.Steps.{HoldsVariantPlan}
+use Rattle.write.specs.Answer.{write_of}
+use Rattle.write.specs.Steps.{HoldsVariantPlan, placed_in}
 use Rattle.write.specs.declared.WriteAnswer.{WriteAnswer}
 use Rattle.write.specs.declared.WriteAnswer.TheVariants.{Written, Refused}
 
@@ -63,43 +63,31 @@ nodes_picked c t v h r e =
 -- Bytes that fit are placed, and bytes that do not are refused.
 module _ (bytes area : List ℕ) (n : ℕ) where
   pub bytes_fit : (after : List ℕ) → length bytes ≤ length area → HoldsText bytes area after n
-      → outcome (Written n) after ≡ placed_in Refused Written bytes area
-  bytes_fit after l e =
-      (λ i. record { answer = Written (e.size_is i); area = e.area i }) ∙ sym (placed_whole Refused Written bytes area l)
+      → outcome (Written n) after ≡ placed_in area bytes
+  bytes_fit after l e = rw (le-leb (length bytes) (length area) l, e.area, e.size_is)
 
   pub bytes_too_many : n ≡ length bytes → length area < n
-      → outcome (Refused (AreaTooShort n)) area ≡ placed_in Refused Written bytes area
+      → outcome (Refused (AreaTooShort n)) area ≡ placed_in area bytes
   bytes_too_many e l =
-      ap (λ (m : ℕ). outcome (Refused (AreaTooShort m)) area) e
-      ∙ sym (placed_short Refused Written bytes area (omega arith))
+      let short : leb (length bytes) (length area) ≡ false = lt-leb (length bytes) (length area) (omega arith) in
+      rw short (ap (λ (m : ℕ). outcome (Refused (AreaTooShort m)) area) e)
 
 -- The outcome, by the judgement of the file.
-module _ (s : List ℕ) (v : ℕ) (area : List ℕ) where
-  pub writes_refusal : (r : Refusal) → judge s ≡ refuses r → outcome (Refused r) area ≡ write_of s v area
+module _ (s : List ℕ) (v : ℕ) where
+  pub writes_refusal : (r : Refusal) (area : List ℕ) → judge s ≡ refuses r
+      → outcome (Refused r) area ≡ write_of s v area
   unfolding write_of
-  writes_refusal r e = sym (verdict_refuses (turned_back Refused area) (write_plan v area) s r e)
+  writes_refusal r area e = rw e
 
-  module _ (p : Plan) (t : Term) (is : judge s ≡ accepts p t) where
-    pub writes_no_variant : variant_count t ≤ v → outcome (Refused NoSuchVariant) area ≡ write_of s v area
+  module _ (c : Campaign) (t : Term) (is : judge s ≡ accepts (plan_of c.tables) t) (h : HoldsPlan c t) where
+    pub writes_no_variant : (area : List ℕ) → c.variants ≤ v
+        → outcome (Refused NoSuchVariant) area ≡ write_of s v area
     unfolding write_of
-    writes_no_variant l =
-        sym
-        (verdict_accepts (turned_back Refused area) (write_plan v area) s p t is
-        ∙ variant_absent (turned_back Refused area) (write_variant area p) t v l)
+    writes_no_variant area l = rw (is, le-ltb v (variant_count t) (omega (arith, h.counted)))
 
-    pub writes_bytes : v < variant_count t → write_variant area p (variant_at t v) ≡ write_of s v area
-    unfolding write_of
-    writes_bytes l =
-        sym
-        (verdict_accepts (turned_back Refused area) (write_plan v area) s p t is
-        ∙ variant_there (turned_back Refused area) (write_variant area p) t v l)
-
--- The tables that `variant_of` makes of it.
-pub writes_tables :
-    (s : List ℕ) (v : ℕ) (area : List ℕ) (c : Campaign) (t : Term) → judge s ≡ accepts (plan_of c.tables) t
-    → v < variant_count t → (r : Tables) → HoldsVariantPlan c.tables t v r
-    → placed_in Refused Written (text (plan_of r)) area ≡ write_of s v area
-unfolding written
-writes_tables s v area c t is l r made =
-    ap (λ (x : Plan). placed_in Refused Written (text x) area) made.plan
-    ∙ writes_bytes s v area (plan_of c.tables) t is l
+    -- The tables that `variant_of` makes of it.
+    pub writes_variant :
+        (r : Tables) → v < c.variants → HoldsVariantPlan c.tables t v r → (area : List ℕ) (o : Outcome WriteAnswer)
+        → o ≡ placed_in area (text (plan_of r)) → o ≡ write_of s v area
+    unfolding write_of written
+    writes_variant r l made area o e = rw (is, lt-ltb v (variant_count t) (omega (arith, h.counted)), ← made.plan) e

@@ -1,14 +1,12 @@
 // WRITE: a variant of a plan, written out as a plan file.
 ghost use Rattle.std.specs.Prelude.{◌≤◌, ◌≡◌};
 ghost use Rattle.plan.specs.Limits.{most_resources, most_acts, most_nodes};
-ghost use Rattle.plan.specs.Outcome.{placed_in};
 ghost use Rattle.plan.specs.Plan.{plan_of};
 ghost use Rattle.format.specs.Text.{text};
 ghost use Rattle.term.specs.Term.{Term};
 ghost use Rattle.judge.specs.Campaign.{HoldsVariant};
 ghost use Rattle.write.specs.Answer.{write_of};
-ghost use Rattle.write.specs.Steps.{HoldsVariantPlan};
-ghost use Rattle.write.specs.declared.WriteAnswer.TheVariants.{Written, Refused};
+ghost use Rattle.write.specs.Steps.{HoldsVariantPlan, placed_in};
 
 use judge::Campaign;
 use parser::Verdict;
@@ -54,7 +52,7 @@ fn variant_of(campaign: Campaign, v: u32) -> Tables
 fn write_plan(tables: Tables, area: &mut [u8]) -> WriteAnswer
     requires { (tables.resources ≤ most_resources) × (tables.acts ≤ most_acts) × (tables.nodes ≤ most_nodes) }
     ensures { record { answer = result; area = area.new }
-        ≡ placed_in Refused Written (text (plan_of tables)) area.old }
+        ≡ placed_in area.old (text (plan_of tables)) }
 {
     let needed = writer::text_length(tables);
     if area.len() < needed {

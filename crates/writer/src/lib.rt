@@ -19,7 +19,7 @@ struct Line {
     second: u16,
 }
 
-pub fn put_byte(area: &mut [u8], at: usize, b: u8) -> usize
+fn put_byte(area: &mut [u8], at: usize, b: u8) -> usize
     requires { at + 1 < 2 ^ 64 }
     ensures { Wrote area.old at (b ∷ []) result area.new }
 {

@@ -1,7 +1,7 @@
 -- `best` meets its contract: the judgement of the file, and for a plan its shortest session.
-use mathlib.Core.Path.{refl, ◌∙◌}
 use borrow.Author.Rules.{rules}
-use Rattle.calls.proofs.Judged.{best_accepted, best_refusal}
+use Rattle.answers.specs.declared.BestAnswer.TheVariants.{Refused}
+use Rattle.calls.proofs.Judged.{best_of_lem}
 use Rattle.calls.proofs.best.Statement.{statement}
 use Rattle.calls.proofs.best.Tie as tie
 
@@ -28,14 +28,18 @@ returns c =
     let b = c.before.before.before.before in
     let s = b.before.before.args.file.now in
     let (t, is, h) = b.judge.ensures.accepted c.before.enum_told.given.1 in
-    c.shortest.ensures t h ∙ best_accepted s b.before.before.args.cap _ t is
+    best_of_lem s _ is b.before.before.args.cap c.shortest.result (c.shortest.ensures t h)
 
 returns-2 : tie.Need-returns-2
 returns-2 c =
     let b = c.before.before.before.before.before in
-    best_refusal b.before.before.args.file.now b.before.before.args.cap _
-    (b.judge.ensures.refused _ c.before.before.verdict.given.1) _ refl
-    c.empty.ensures
+    best_of_lem b.before.before.args.file.now _
+    (b.judge.ensures.refused _ c.before.before.verdict.given.1) b.before.before.args.cap _
+    (λ i.
+    record {
+      answer = Refused c.before.before.verdict.given.0.0;
+      timetable = record { starts = c.empty.ensures i };
+    })
 
 pub best-spec : {M : Type 1} → statement M
 best-spec =

@@ -1,7 +1,7 @@
 -- `list` meets its contract: the judgement of the file, and for a plan its rows.
-use mathlib.Core.Path.{◌∙◌}
+use mathlib.Core.Path.{refl}
 use borrow.Author.Rules.{rules}
-use Rattle.calls.proofs.Judged.{list_accepted, list_refused}
+use Rattle.calls.proofs.Judged.{list_of_lem}
 use Rattle.calls.proofs.list.Statement.{statement}
 use Rattle.calls.proofs.list.Tie as tie
 
@@ -30,14 +30,14 @@ returns c =
     let g = b.before.before.before.args in
     let s = g.file.now in
     let (t, is, h) = b.judge.ensures.accepted r.before.before.enum_told.given.1 in
-    r.listed.ensures t h ∙ list_accepted s g.cap _ t is g.area.now
+    list_of_lem s _ is g.cap g.area.now _ (r.listed.ensures t h)
 
 returns-2 : tie.Need-returns-2
 returns-2 c =
     let b = c.before.before.before.before in
     let a = b.before.before.before.args in
-    list_refused a.file.now a.cap _ (b.judge.ensures.refused _ c.before.verdict.given.1)
-    a.area.now
+    list_of_lem a.file.now _ (b.judge.ensures.refused _ c.before.verdict.given.1) a.cap a.area.now _
+    refl
 
 pub list-spec : {M : Type 1} → statement M
 list-spec =

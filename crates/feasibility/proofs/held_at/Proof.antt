@@ -30,11 +30,8 @@ holds c k =
 loop-holds : tie.Need-loop-init invariant-loop decreases-loop
 loop-holds c = (omega arith, sum_none (holds c), omega arith)
 
-add-runs-between : tie.Need-overflow-add-runs-between invariant-loop decreases-loop
-add-runs-between c = omega arith
-
-runs-between-requires : tie.Need-runs-between-requires invariant-loop decreases-loop
-runs-between-requires c κs = omega arith
+runs-at-requires : tie.Need-runs-at-requires invariant-loop decreases-loop
+runs-at-requires c κs = omega arith
 
 mul-held-by : tie.Need-overflow-mul-held-by invariant-loop decreases-loop
 mul-held-by c = omega arith
@@ -64,7 +61,7 @@ loop-again c =
     let units = get_or start.args.units.now (most_resources * at.i + start.args.r) 0 in (
       omega arith,
       sum_more (holds start) at.i at.held c.held_by.result at.invariant.1
-          (c.held_by.ensures.0 ∙ ap (λ b. cond b units 0) c.before.before.runs-between.ensures),
+          (c.held_by.ensures.0 ∙ ap (λ b. cond b units 0) c.before.before.runs-at.ensures),
       omega arith,
     )
 
@@ -82,8 +79,7 @@ held-at-spec =
     invariant-loop
     decreases-loop
     loop-holds
-    add-runs-between
-    runs-between-requires
+    runs-at-requires
     mul-held-by
     add-held-by
     element-copy-out-held-by

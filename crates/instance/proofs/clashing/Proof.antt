@@ -6,9 +6,8 @@ use mathlib.Core.Path.{sym, ap, ◌∙◌}
 use mathlib.Core.Path.{sym, ap, ◌∙◌, subst}
 use Rattle.instance.specs.Instance.{fit_together}
 use Rattle.instance.specs.Table.{acts_of}
-use Rattle.sets.specs.Passing.{with_if, Passing}
-use Rattle.instance.specs.Steps.{Grouped}
-use Rattle.sets.proofs.Passing.{passing_none, passing_more, passing_all}
+use Rattle.instance.specs.Steps.{with_if, Passing, Grouped}
+use Rattle.instance.proofs.Fill.{passing_none, passing_more, passing_all}
 use Rattle.instance.proofs.Clashes.{clash_is}
 use Rattle.instance.proofs.clashing.Statement.{statement}
 use Rattle.instance.proofs.clashing.Tie as tie

@@ -4,7 +4,7 @@ use native.Mathlib.Omega.{arith}
 use mathlib.Core.Path.{sym, ◌∙◌}
 use lib.Dec.{ltb}
 use Rattle.instance.specs.Table.{acts_of, units_at}
-use Rattle.sets.proofs.Passing.{passing_all}
+use Rattle.instance.proofs.Fill.{passing_all}
 use Rattle.instance.proofs.Merging.{Merging, merging_none, merging_more, merging_all}
 use Rattle.instance.proofs.merge_all.Statement.{statement}
 use Rattle.instance.proofs.merge_all.Tie as tie

@@ -5,8 +5,8 @@ use mathlib.Core.Bool.{Bool}
 use mathlib.Core.Path.{ap, ◌∙◌}
 use Rattle.instance.specs.Instance.{own_of, is_tight}
 use Rattle.instance.specs.Table.{resources_of}
-use Rattle.sets.specs.Passing.{with_if, Passing}
-use Rattle.sets.proofs.Passing.{passing_none, passing_more, passing_all}
+use Rattle.instance.specs.Steps.{with_if, Passing}
+use Rattle.instance.proofs.Fill.{passing_none, passing_more, passing_all}
 use Rattle.instance.proofs.Clashes.{tight_is}
 use Rattle.instance.proofs.tight.Statement.{statement}
 use Rattle.instance.proofs.tight.Tie as tie

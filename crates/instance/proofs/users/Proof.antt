@@ -4,8 +4,8 @@ use native.Mathlib.Omega.{arith}
 use mathlib.Core.Path.{ap, ◌∙◌}
 use lib.Dec.{ltb}
 use Rattle.instance.specs.Table.{units_at}
-use Rattle.sets.specs.Passing.{with_if, Passing}
-use Rattle.sets.proofs.Passing.{passing_none, passing_more, passing_all}
+use Rattle.instance.specs.Steps.{with_if, Passing}
+use Rattle.instance.proofs.Fill.{passing_none, passing_more, passing_all}
 use Rattle.instance.proofs.users.Statement.{statement}
 use Rattle.instance.proofs.users.Tie as tie
 

@@ -4,7 +4,7 @@ use Rattle.schedule.specs.Schedule.{latest_end}
 use Rattle.schedule.specs.Sessions.{starts_of}
 use Rattle.instance.specs.Table.{project_in}
 use Rattle.soonest.specs.Row.{row_in}
-use Rattle.tally.proofs.Rows.{last_is, by_end, by_variant_lem, by_starts}
+use Rattle.tally.proofs.Rows.{last_is, by_end, by_variant, by_starts}
 use borrow.Author.Rules.{rules}
 use Rattle.tally.proofs.is_before.Statement.{statement}
 use Rattle.tally.proofs.is_before.Tie as tie
@@ -43,7 +43,7 @@ returns-2 : tie.Need-returns-2
 returns-2 c =
     let start = c.before.before.before.before.before.before in
     let a = start.args in
-    by_variant_lem a.table.now a.work.now a.cells.now
+    by_variant a.table.now a.work.now a.cells.now
     (sym (last start) ∙ c.before.before.before.before.if1.false)
     c.before.if2.true
 

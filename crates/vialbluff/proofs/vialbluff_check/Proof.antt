@@ -1,5 +1,4 @@
 -- `vialbluff::vialbluff_check` meets its contract, from what the call answers.
-use mathlib.Core.List.{[]}
 use mathlib.Core.Path.{ap, ◌∙◌}
 use borrow.Author.Rules.{rules}
 use Rattle.vialbluff.specs.Cells.{check_cells}
@@ -13,9 +12,7 @@ of-check-requires : tie.Need-of-check-requires
 of-check-requires c κs = search rules
 
 returns : tie.Need-returns
-returns c =
-    let cells = c.of-check.ensures ∙ ap check_cells c.before.check.ensures in
-    λ i. record { cells = cells i; area = [] }
+returns c = c.of-check.ensures ∙ ap check_cells c.before.check.ensures
 
 pub vialbluff-check-spec : {M : Type 1} → statement M
 vialbluff-check-spec = tie.close (tie.spec check-requires of-check-requires returns)

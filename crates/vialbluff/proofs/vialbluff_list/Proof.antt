@@ -19,9 +19,10 @@ same_length c = search rules
 returns : tie.Need-returns
 returns c =
     let e = c.before.before.before.list.ensures in
-    let cells = c.of-list.ensures ∙ ap (λ (x : Outcome ListAnswer). list_cells x.answer) e in
-    let area = ap (λ (x : Outcome ListAnswer). x.area) e in
-    λ i. record { cells = cells i; area = area i }
+    record {
+      cells = c.of-list.ensures ∙ ap (λ (x : Outcome ListAnswer). list_cells x.answer) e;
+      area = ap (λ (x : Outcome ListAnswer). x.area) e;
+    }
 
 pub vialbluff-list-spec : {M : Type 1} → statement M
 vialbluff-list-spec = tie.close (tie.spec list-requires of-list-requires same_length returns)

@@ -1,5 +1,4 @@
 -- `vialbluff::vialbluff_read` meets its contract, from what the call answers.
-use mathlib.Core.List.{[]}
 use mathlib.Core.Path.{ap, ◌∙◌}
 use borrow.Author.Rules.{rules}
 use Rattle.vialbluff.specs.Cells.{read_cells}
@@ -13,9 +12,7 @@ of-read-requires : tie.Need-of-read-requires
 of-read-requires c κs = search rules
 
 returns : tie.Need-returns
-returns c =
-    let cells = c.of-read.ensures ∙ ap read_cells c.before.read.ensures in
-    λ i. record { cells = cells i; area = [] }
+returns c = c.of-read.ensures ∙ ap read_cells c.before.read.ensures
 
 pub vialbluff-read-spec : {M : Type 1} → statement M
 vialbluff-read-spec = tie.close (tie.spec read-requires of-read-requires returns)

@@ -19,9 +19,10 @@ same_length c = search rules
 returns : tie.Need-returns
 returns c =
     let e = c.before.before.before.write.ensures in
-    let cells = c.of-write.ensures ∙ ap (λ (x : Outcome WriteAnswer). write_cells x.answer) e in
-    let area = ap (λ (x : Outcome WriteAnswer). x.area) e in
-    λ i. record { cells = cells i; area = area i }
+    record {
+      cells = c.of-write.ensures ∙ ap (λ (x : Outcome WriteAnswer). write_cells x.answer) e;
+      area = ap (λ (x : Outcome WriteAnswer). x.area) e;
+    }
 
 pub vialbluff-write-spec : {M : Type 1} → statement M
 vialbluff-write-spec = tie.close (tie.spec write-requires of-write-requires same_length returns)

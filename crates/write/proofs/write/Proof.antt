@@ -1,14 +1,13 @@
 -- `write` meets its contract, by the judgement of the file and the steps of an accepted one.
 use borrow.Author.Rules.{rules}
-use native.Mathlib.Omega.{arith}
-use mathlib.Core.Path.{◌≡◌, ◌∙◌}
+use mathlib.Core.Path.{◌≡◌}
 use Rattle.plan.specs.Plan.{plan_of}
 use Rattle.term.specs.Term.{Term}
 use Rattle.judge.specs.Judge as spec
 use Rattle.judge.specs.Judge.{accepts}
 use Rattle.judge.specs.Campaign.{HoldsPlan}
 use Rattle.judge.proofs.Holding.{has_variant}
-use Rattle.write.proofs.Writing.{writes_tables, writes_no_variant, writes_refusal}
+use Rattle.write.proofs.Writing.{writes_variant, writes_no_variant, writes_refusal}
 use Rattle.write.proofs.write.Statement.{statement}
 use Rattle.write.proofs.write.Tie as tie
 
@@ -54,24 +53,23 @@ returns c =
     let j = judged b in
     let a = (start j).args in
     let (t, is, h) = accepted b in
-    let v = has_variant h a.v w.before.if1.true in
+    writes_variant a.file.now a.v j.judge.result.campaign t is h w.variant_of_lem.result
+    w.before.if1.true
+    (w.variant_of_lem.ensures t (has_variant h a.v w.before.if1.true)) a.area.now _
     c.before.before.write-plan.ensures
-    ∙ writes_tables a.file.now a.v a.area.now j.judge.result.campaign t is v.below
-    w.variant_of_lem.result
-    (w.variant_of_lem.ensures t v)
 
 returns-2 : tie.Need-returns-2
 returns-2 c =
     let j = judged c.before in
     let a = (start j).args in
     let (t, is, h) = accepted c.before in
-    writes_no_variant a.file.now a.v a.area.now _ t is (omega (arith, h.counted, c.if1.false))
+    writes_no_variant a.file.now a.v j.judge.result.campaign t is h a.area.now c.if1.false
 
 returns-3 : tie.Need-returns-3
 returns-3 c =
     let j = c.before.before.before.before in
     let a = (start j).args in
-    writes_refusal a.file.now a.v a.area.now _
+    writes_refusal a.file.now a.v _ a.area.now
     (j.judge.ensures.refused _ c.before.verdict.given.1)
 
 pub write_spec : {M : Type 1} → statement M

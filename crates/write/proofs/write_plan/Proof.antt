@@ -13,7 +13,7 @@ text-length-requires c κs = search rules
 returns : tie.Need-returns
 returns c =
     let start = c.before.before.before in
-    let measured = c.before.text_length in
+    let measured = c.before.text-length in
     bytes_too_many (text (plan_of start.args.tables)) start.args.area.now measured.result
     measured.ensures (omega arith)
 

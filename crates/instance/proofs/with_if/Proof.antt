@@ -4,8 +4,8 @@ use mathlib.Core.Path.{sym, ap, ◌∙◌}
 use lib.Bits.{bit_or}
 use borrow.Author.Rules.{rules}
 use Rattle.base.proofs.Bools.{cond_true, cond_false}
-use Rattle.sets.proofs.with_if.Statement.{statement}
-use Rattle.sets.proofs.with_if.Tie as tie
+use Rattle.instance.proofs.with_if.Statement.{statement}
+use Rattle.instance.proofs.with_if.Tie as tie
 
 single-requires : tie.Need-single-requires
 single-requires c κs = search rules
