@@ -1,5 +1,7 @@
 // LIST and BEST: the active sessions of a plan listed, and the first shortest one with how many there are and how many
 // are as short.
+#![tactic(auto)]
+
 use plan::Refusal;
 use timetable::Timetable;
 

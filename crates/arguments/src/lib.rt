@@ -1,4 +1,6 @@
 // The words of a command line: numbers, and the starts of activities.
+#![tactic(auto)]
+
 ghost use Rattle.std.specs.Prelude.{◌-◌, ◌≤◌, ◌<◌, true, ◌≡◌, length, get_or};
 ghost use Rattle.format.specs.Lines.{is_digit, is_sized};
 ghost use Rattle.timetable.specs.Mark.{places};

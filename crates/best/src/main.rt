@@ -1,4 +1,6 @@
 // A shortest session of the plan file on standard input, with the number of active sessions, or the refusal.
+#![tactic(auto)]
+
 fn main() {
     let mut file = [0u8; console::FILE];
     let input = console::read_input(&mut file);

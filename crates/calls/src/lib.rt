@@ -1,4 +1,6 @@
 // LIST and BEST: each judges the file, then sweeps over all variants of the plan.
+#![tactic(auto)]
+
 ghost use Rattle.std.specs.Prelude.{◌≡◌};
 ghost use Rattle.plan.specs.Plan.{plan_of};
 ghost use Rattle.term.specs.Term.{Term};

@@ -1,5 +1,7 @@
 // The five calls of the planner against the plain judgement, writer and enumerator, which share no code with it: on
 // generated plans, on each of these with a fault put in, and on the campaigns.
+#![tactic(auto)]
+
 mod agreement;
 mod asked;
 mod campaigns;

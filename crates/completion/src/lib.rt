@@ -1,4 +1,6 @@
 // The rest of a schedule once nothing is contested any more.
+#![tactic(auto)]
+
 ghost use Rattle.std.specs.Prelude.{◌≡◌, ◌^◌, ◌≤◌, ◌<◌};
 ghost use Rattle.plan.specs.Limits.{latest_possible};
 ghost use Rattle.sets.specs.Sets.{most};

@@ -1,4 +1,6 @@
 // Standard input and output of the programs. Each `put_` function answers whether all of its text was written.
+#![tactic(auto)]
+
 ghost use Rattle.std.specs.Prelude.{◌+◌, ◌≤◌, length};
 ghost use Rattle.io.specs.Counts.{IsPrefixLen};
 

@@ -1,4 +1,6 @@
 // How many of what is left may yet be contested.
+#![tactic(auto)]
+
 ghost use Rattle.std.specs.Prelude.{not, ◌||◌, ◌≡◌, ◌^◌, ◌<◌};
 ghost use Rattle.sets.specs.Sets.{most, has};
 ghost use Rattle.sets.specs.Lowest.{lowest_of, after_lowest};

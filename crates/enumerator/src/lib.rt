@@ -1,5 +1,7 @@
 // A plain enumerator of the active sessions of a plan file, and a plain test of a timetable, by the definitions alone.
 // It shares no code with the planner.
+#![tactic(auto)]
+
 mod lower;
 mod placing;
 mod rows;

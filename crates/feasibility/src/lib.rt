@@ -1,4 +1,6 @@
 // Is a timetable a feasible session of a variant?
+#![tactic(auto)]
+
 ghost use Rattle.std.specs.Prelude.{◌≡◌, cond, ◌+◌, ◌<◌, ◌≤◌, leb};
 ghost use Rattle.plan.specs.Limits.{most_resources, most_acts};
 ghost use Rattle.plan.specs.Plan.{plan_of};

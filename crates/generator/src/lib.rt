@@ -1,5 +1,7 @@
 // Small valid plan files of both editions, each made of a seed: one to six activities, durations that are short or
 // those of soak tests, resources of one unit or more, and a term of few variants.
+#![tactic(auto)]
+
 ghost use Rattle.std.specs.Prelude.{◌≤◌};
 ghost use Rattle.generator.specs.Text.{Counts};
 

@@ -1,4 +1,6 @@
 // CHECK: is a timetable a feasible session of a variant?
+#![tactic(auto)]
+
 ghost use Rattle.std.specs.Prelude.{◌≡◌};
 ghost use Rattle.plan.specs.Plan.{plan_of};
 ghost use Rattle.term.specs.Term.{Term};

@@ -1,5 +1,7 @@
 // The table of one variant that the search reads, in two parts: what rests on the plan alone, and what rests on the
 // variant.
+#![tactic(auto)]
+
 ghost use Rattle.std.specs.Prelude.{cond, ◌≡◌, ℕ, ◌+◌, ◌*◌, ◌%◌, ◌^◌, ◌≤◌, ◌<◌, ltb, length, get_or};
 ghost use Rattle.plan.specs.Limits.{most_resources};
 ghost use Rattle.sets.specs.Sets.{most, has, width};

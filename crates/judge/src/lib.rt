@@ -1,4 +1,6 @@
 // The judgement of a plan file that every call starts with.
+#![tactic(auto)]
+
 ghost use Rattle.std.specs.Prelude.{◌≡◌};
 ghost use Rattle.plan.specs.Plan.{plan_of};
 ghost use Rattle.term.specs.Term.{term_of};

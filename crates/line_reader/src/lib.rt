@@ -1,5 +1,7 @@
 // Reads one line of a text by its form. A position past the end of the text is nowhere: nothing is found there, and
 // what follows it is nowhere too.
+#![tactic(auto)]
+
 ghost use Rattle.std.specs.Prelude.{◌<◌, ◌≡◌, [], ◌∷◌, length, get_or};
 ghost use Rattle.std.proofs.Math.Option.{none};
 ghost use Rattle.plan.specs.Limits.{most_digits};

@@ -1,4 +1,6 @@
 // Every order of what is left in one component.
+#![tactic(auto)]
+
 ghost use Rattle.std.specs.Prelude.{Bool, ◌≡◌, ℕ, ◌<◌, ltb};
 ghost use Rattle.sets.specs.Lowest.{after_lowest};
 ghost use Rattle.schedule.specs.Schedule.{Starts};

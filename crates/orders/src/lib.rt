@@ -1,5 +1,7 @@
 // The orders of the variants searched so far, found by their activities; whether one of them has a schedule among its
 // active ones.
+#![tactic(auto)]
+
 ghost use Rattle.std.specs.Prelude.{true, ◌≡◌, ℕ, ◌+◌, ◌*◌, ◌^◌, ◌≤◌, ◌<◌, length, get_or};
 ghost use Rattle.sets.specs.Sets.{most};
 ghost use Rattle.schedule.specs.Schedule.{active};

@@ -1,5 +1,7 @@
 // Reads the text of a plan file into tables, in one pass. Past the end of the text is nowhere, and what follows it is
 // nowhere too.
+#![tactic(auto)]
+
 ghost use Rattle.std.specs.Prelude.{ℕ, ◌+◌, ◌*◌, ◌≤◌, ◌<◌, true, false, ◌&&◌, ◌≡◌, length, take};
 ghost use Rattle.std.proofs.lemmas.List.Edits.{sets};
 ghost use Rattle.plan.specs.Limits.{longest, says_units, most_resources, most_acts, most_nodes, is_capacity, is_duration};

@@ -1,4 +1,6 @@
 // Where the terms of a plan end, how many variants each has, and the nodes of one variant, as they are written out.
+#![tactic(auto)]
+
 ghost use Rattle.std.specs.Prelude.{◌+◌, ◌/◌, ◌%◌, ◌≤◌, ◌<◌, min, List, ◌≡◌, set};
 ghost use Rattle.std.proofs.Math.Option.{some};
 ghost use Rattle.plan.specs.Limits.{most_nodes};

@@ -1,5 +1,7 @@
 // Plan files of both editions by the definitions alone: the lines one by one, the refusals that rest on the file, and
 // the variants in the order of their numbers. It shares no code with the planner.
+#![tactic(auto)]
+
 mod line;
 mod picks;
 mod tables;

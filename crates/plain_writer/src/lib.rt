@@ -1,4 +1,6 @@
 // Variants of a plan written out, by the paper alone. It shares no code with the planner.
+#![tactic(auto)]
+
 mod nodes;
 mod text;
 

@@ -1,4 +1,6 @@
 // A plan as the program keeps it, and the refusals of every call.
+#![tactic(auto)]
+
 ghost use Rattle.std.specs.Prelude.{ℕ, ◌≡◌};
 ghost use Rattle.plan.specs.Limits.{says_units};
 ghost use Rattle.plan.specs.Refusals.{number_of, figure_of};

@@ -1,4 +1,6 @@
 // The planner's calls on the command line: a plan file comes on standard input, and the words say which call answers.
+#![tactic(auto)]
+
 mod usage;
 mod words;
 

@@ -1,4 +1,6 @@
 // One variant of an accepted plan: which activities it has, and which stand before each of them.
+#![tactic(auto)]
+
 ghost use Rattle.std.specs.Prelude.{◌≡◌, ◌<◌};
 ghost use Rattle.sets.specs.Sets.{most};
 ghost use Rattle.term.specs.Term.{Term, act};

@@ -1,5 +1,7 @@
 // What the programs print: the answer to every command on the dot test, and a refusal of every number, in the order of
 // the paper's table.
+#![tactic(auto)]
+
 use console::put;
 use timetable::Timetable;
 

@@ -1,4 +1,6 @@
 // The answers of the calls, printed. A refusal is its number, its figure and the reason in words.
+#![tactic(auto)]
+
 use answers::{BestAnswer, ListAnswer};
 use console::{put, put_line};
 use inspect::CheckAnswer;

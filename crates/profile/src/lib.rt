@@ -1,4 +1,6 @@
 // The room among frozen activities.
+#![tactic(auto)]
+
 ghost use Rattle.std.specs.Prelude.{true, false, ◌≡◌, ℕ, ◌^◌, ◌≤◌, ◌<◌, ◌+◌, ◌*◌, max, min, length, get_or, set};
 ghost use Rattle.plan.specs.Limits.{most_resources, latest_possible};
 ghost use Rattle.sets.specs.Sets.{most, has, width};

@@ -1,4 +1,6 @@
 // Whether the values of a line are in their ranges.
+#![tactic(auto)]
+
 ghost use Rattle.std.specs.Prelude.{◌≤◌, [], ◌∷◌, ◌≡◌, take};
 ghost use Rattle.plan.specs.Limits.{between, most_resources, is_duration, is_unit_count};
 ghost use Rattle.plan.specs.Plan.{activity_of, is_activity, is_within, node_of};

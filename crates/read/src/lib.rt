@@ -1,4 +1,6 @@
 // READ: the number of activities, of nodes and of variants.
+#![tactic(auto)]
+
 ghost use Rattle.std.specs.Prelude.{◌≡◌};
 ghost use Rattle.read.specs.Answer.{read_of};
 

@@ -1,5 +1,6 @@
 // Plan files of both editions: the worked campaigns, and one for each kind of fault, as the programs that run them take
 // them.
+#![tactic(auto)]
 
 // The dot test, whole.
 pub fn dot_test() -> [u8; 149] {

@@ -1,4 +1,6 @@
 // The search for the active schedules of one variant.
+#![tactic(auto)]
+
 ghost use Rattle.std.specs.Prelude.{true, false, ◌≡◌, ◌^◌, ◌≤◌, ◌<◌};
 ghost use Rattle.sets.specs.Sets.{most, has};
 ghost use Rattle.sets.specs.Lowest.{lowest_of};

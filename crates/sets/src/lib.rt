@@ -1,4 +1,6 @@
 // Sets of activities: one bit for each, bit i for activity i.
+#![tactic(auto)]
+
 ghost use Rattle.std.specs.Prelude.{◌≡◌, ◌-◌, ◌^◌, ◌<◌, true};
 ghost use Rattle.std.specs.Int.Bits.{bit_and, bit_or, bit_xor};
 ghost use Rattle.sets.specs.Sets.{most, has, meet};

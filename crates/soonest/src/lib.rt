@@ -1,4 +1,6 @@
 // Whether a schedule is active under another order of its activities: each of them starts as soon as it fits.
+#![tactic(auto)]
+
 ghost use Rattle.std.specs.Prelude.{true, ◌≡◌, ℕ, ◌^◌, ◌≤◌, ◌<◌, length, get_or};
 ghost use Rattle.sets.specs.Sets.{most, has};
 ghost use Rattle.instance.specs.Table.{present_of};

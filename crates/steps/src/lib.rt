@@ -1,4 +1,6 @@
 // The steps of a move of the scan (document 000, section 4.2).
+#![tactic(auto)]
+
 ghost use Rattle.std.specs.Prelude.{true, ◌≡◌, ℕ, ◌^◌, ◌≤◌, ◌<◌};
 ghost use Rattle.plan.specs.Limits.{latest_possible};
 ghost use Rattle.sets.specs.Sets.{most, has};

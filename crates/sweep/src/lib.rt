@@ -1,5 +1,7 @@
 // All variants of an accepted plan, searched one after another. A schedule that a lower variant has is passed over, and
 // a variant with the activities and the order of a lower one is not searched.
+#![tactic(auto)]
+
 ghost use Rattle.std.specs.Prelude.{◌*◌, ◌≤◌, length};
 ghost use Rattle.term.specs.Term.{Term};
 ghost use Rattle.term.specs.Variants.{variant_count};

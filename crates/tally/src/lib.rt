@@ -1,4 +1,6 @@
 // What is kept of the schedules that are found: their number, how many are shortest, the first of these, and the rows.
+#![tactic(auto)]
+
 ghost use Rattle.std.specs.Prelude.{true, ◌≡◌, ◌++◌, ◌+◌, ◌*◌, ◌≤◌, ◌<◌, length, take, drop};
 ghost use Rattle.base.specs.Order.{is_before};
 ghost use Rattle.plan.specs.Limits.{word_values};

@@ -1,4 +1,6 @@
 // Reads the nodes of a plan once: are they one whole term, and has one of its variants an activity twice?
+#![tactic(auto)]
+
 ghost use Rattle.std.specs.Prelude.{◌≡◌};
 ghost use Rattle.term.specs.Term.{term_of};
 ghost use Rattle.plan.specs.Plan.{nodes_in};

@@ -1,4 +1,6 @@
 // A timetable: one start for each activity number.
+#![tactic(auto)]
+
 ghost use Rattle.std.specs.Prelude.{◌≡◌};
 ghost use Rattle.timetable.specs.Mark.{no_starts};
 

@@ -1,4 +1,6 @@
 // What needs no branch: the moves between two branches.
+#![tactic(auto)]
+
 ghost use Rattle.std.specs.Prelude.{◌≡◌, ◌<◌, true, set};
 ghost use Rattle.sets.specs.Sets.{most, has};
 ghost use Rattle.scan.specs.Scan.{Diagram};

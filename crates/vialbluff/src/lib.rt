@@ -1,5 +1,7 @@
 // The calls for C and Rust, kept to numbers and slices. Each fills `out`: 0 and the values on success, else the
 // refusal's number and figure.
+#![tactic(auto)]
+
 ghost use Rattle.std.specs.Prelude.{◌≡◌};
 ghost use Rattle.read.specs.Answer.{read_of};
 ghost use Rattle.inspect.specs.Answer.{check_of};

@@ -1,4 +1,6 @@
 // WRITE: a variant of a plan, written out as a plan file.
+#![tactic(auto)]
+
 ghost use Rattle.std.specs.Prelude.{◌≤◌, ◌≡◌};
 ghost use Rattle.plan.specs.Limits.{most_resources, most_acts, most_nodes};
 ghost use Rattle.plan.specs.Plan.{plan_of};

@@ -1,6 +1,8 @@
 // Writes the text of a plan file into a lent area, in one pass. A byte that would stand past the area's end is
 // counted and not stored, so that the pass over an empty area measures the text. Places are required to be far below
 // the largest number, so that no sum wraps.
+#![tactic(auto)]
+
 ghost use Rattle.std.specs.Prelude.{◌+◌, ◌≤◌, ◌<◌, ◌^◌, cond, ◌≡◌, [], ◌∷◌, length, take};
 ghost use Rattle.plan.specs.Limits.{says_units, most_digits, most_resources, most_acts, most_nodes, counts_form, act_form};
 ghost use Rattle.plan.specs.Limits.{node_form};
