@@ -5,14 +5,14 @@
 use plan::Refusal;
 use timetable::Timetable;
 
-#[derive(Drop)]
+#[derive(Clone, Copy)]
 pub enum ListAnswer {
     // How many rows were written.
     Listed(u64),
     Refused(Refusal),
 }
 
-#[derive(Drop)]
+#[derive(Clone, Copy)]
 pub enum BestAnswer {
     // Of the first shortest session its variant and makespan; how many active sessions there are, and how many of these
     // are as short.
@@ -26,7 +26,7 @@ pub enum BestAnswer {
 }
 
 // A shortest session stands in the timetable; on a refusal that is the empty one.
-#[derive(Drop)]
+#[derive(Clone, Copy)]
 pub struct Best {
     pub answer: BestAnswer,
     pub timetable: Timetable,

@@ -12,27 +12,27 @@ use timetable::Timetable;
 // How many activity numbers there are, in the type of a word's number.
 const ACTS: u32 = plan::MOST_ACTS as u32;
 
-#[derive(Drop)]
+#[derive(Clone, Copy)]
 pub enum Number {
     Value(u32),
     NoNumber,
 }
 
-#[derive(Drop)]
+#[derive(Clone, Copy)]
 pub enum Start {
     At { activity: u32, start: u32 },
     NoStart,
 }
 
 // Whether a word gave an activity its start.
-#[derive(Drop)]
+#[derive(Clone, Copy)]
 pub enum Placing {
     Done,
     Twice,
     NotAStart,
 }
 
-#[derive(Drop)]
+#[derive(Clone, Copy)]
 pub struct Placed {
     pub outcome: Placing,
     pub timetable: Timetable,

@@ -128,7 +128,7 @@ fn asked_of(file: &[u8], e: Enumerated, own: &[u32]) -> Asked {
 
 // What the enumerator found, what WRITE and CHECK were asked, and whether the planner agrees. What could not be
 // compared does not agree.
-#[derive(Drop)]
+#[derive(Clone, Copy)]
 pub struct Comparison {
     pub known: bool,
     pub same: bool,

@@ -1,6 +1,6 @@
 // What WRITE and CHECK were asked: whether each answer was that of the plain side, how many variants were written out,
 // and how many timetables are sessions and how many are not.
-#[derive(Drop)]
+#[derive(Clone, Copy)]
 pub struct Asked {
     pub same: bool,
     pub variants: u64,

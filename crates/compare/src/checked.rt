@@ -9,7 +9,7 @@ use plain::{ACTS, Judged, Plan, Variant};
 use timetable::Timetable;
 
 // A variant of a plan, with its number and the plan's number of activities.
-#[derive(Drop)]
+#[derive(Clone, Copy)]
 struct Case {
     number: u32,
     acts: usize,

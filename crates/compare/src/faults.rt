@@ -27,7 +27,7 @@ fn number_at(place: usize) -> u64 {
 
 // How many files the plain side could judge, on how many of them the two agree, what WRITE and CHECK were asked, and
 // how many files have each number.
-#[derive(Drop)]
+#[derive(Clone, Copy)]
 struct Totals {
     known: u64,
     agree: u64,

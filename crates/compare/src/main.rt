@@ -17,7 +17,7 @@ const PLANS: u64 = 300;
 
 // How many plans the enumerator could follow to the end, on how many of them the two agree, and what WRITE and CHECK
 // were asked.
-#[derive(Drop)]
+#[derive(Clone, Copy)]
 struct Totals {
     known: u64,
     agree: u64,

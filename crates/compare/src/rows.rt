@@ -33,7 +33,7 @@ pub fn hold(area: &[u32], from: usize, content: u32) -> bool {
 }
 
 // A session: its variant, its makespan and its starts, with the mark behind the plan's activities.
-#[derive(Drop)]
+#[derive(Clone, Copy)]
 pub struct Row {
     pub variant: u32,
     pub makespan: u32,

@@ -61,7 +61,7 @@ pub fn room(starts: [u32; ACTS]) -> u32 {
 }
 
 // A session under way: its starts, and the tick on which the next activity starts.
-#[derive(Drop)]
+#[derive(Clone, Copy)]
 struct Line {
     starts: [u32; ACTS],
     tick: u32,

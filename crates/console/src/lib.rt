@@ -13,7 +13,7 @@ use timetable::Timetable;
 pub const FILE: usize = plan::LONGEST + 1;
 
 // What was read. Where a read failed, the length is that of what came before.
-#[derive(Drop)]
+#[derive(Clone, Copy)]
 pub struct Input {
     pub is_read: bool,
     pub length: usize,

@@ -20,7 +20,7 @@ pub const ABSENT: u32 = 4294967295;
 // once, the least makespan of a feasible session, how many of the active ones have it, and how many cells the rows of
 // the active ones take. Where the file is refused, or too many starts were tried, `known` is false and the rest means
 // nothing.
-#[derive(Drop)]
+#[derive(Clone, Copy)]
 pub struct Enumerated {
     pub known: bool,
     pub acts: usize,

@@ -11,7 +11,7 @@ pub const LIMIT: u32 = 1000000000;
 // A search under way: the number of activities, the number of the variant, one more than the sum of its durations and
 // its unit, and of all variants so far the active sessions, the least makespan, the active sessions that have it, the
 // cells of the rows and the starts tried.
-#[derive(Drop)]
+#[derive(Clone, Copy)]
 pub struct Search {
     pub acts: usize,
     pub variant: u32,

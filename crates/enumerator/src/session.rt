@@ -212,7 +212,7 @@ pub fn active<'a>(
 }
 
 // The earliest start, the latest end, and the sum of the starts, which in units is the most ticks that `active` tries.
-#[derive(Drop)]
+#[derive(Clone, Copy)]
 pub struct Span {
     pub first: u32,
     pub last: u32,

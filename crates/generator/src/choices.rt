@@ -5,7 +5,7 @@ use crate::text::{line, node};
 
 // The letter over the three x; the children of the first of them, the others having 16 each; whether an x over the
 // whole adds one more variant; and the activities of the three, and of the very last child.
-#[derive(Drop)]
+#[derive(Clone, Copy)]
 struct Choices {
     letter: u8,
     first: u8,

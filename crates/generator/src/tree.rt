@@ -5,7 +5,7 @@ use crate::random::{below, drawn};
 // The most nodes, and the most children still to come.
 const MOST: usize = 32;
 
-#[derive(Drop)]
+#[derive(Clone, Copy)]
 pub struct Term {
     pub nodes: u8,
     state: u64,

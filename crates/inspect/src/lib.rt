@@ -14,7 +14,7 @@ use parser::Verdict;
 use plan::Refusal;
 use timetable::Timetable;
 
-#[derive(Drop)]
+#[derive(Clone, Copy)]
 pub enum CheckAnswer {
     Checked(bool),
     Refused(Refusal),

@@ -14,7 +14,7 @@ use pick::Spans;
 use plan::{MOST_NODES, Refusal, Tables};
 
 // An accepted plan: its tables, where each of its terms ends and how many variants it has, and V.
-#[derive(Drop)]
+#[derive(Clone, Copy)]
 pub struct Campaign {
     pub tables: Tables,
     pub spans: Spans,
@@ -22,7 +22,7 @@ pub struct Campaign {
 }
 
 // The judgement; where the verdict is a refusal the campaign means nothing.
-#[derive(Drop)]
+#[derive(Clone, Copy)]
 pub struct Judged {
     pub verdict: Verdict,
     pub campaign: Campaign,

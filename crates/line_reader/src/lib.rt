@@ -10,14 +10,14 @@ ghost use Rattle.format.specs.Lines.{is_sized};
 ghost use Rattle.line_reader.specs.Seen.{stepped, digits_read, started, seen, advance};
 
 // A run of digits, read as far as `at`.
-#[derive(Drop)]
+#[derive(Clone, Copy)]
 struct Digits {
     at: usize,
     total: u32,
 }
 
 // A line that is read as far as `next`, with its two latest values.
-#[derive(Drop)]
+#[derive(Clone, Copy)]
 pub struct Line {
     pub next: usize,
     pub first: u32,

@@ -23,14 +23,14 @@ const ACTS: u32 = MOST_ACTS as u32;
 
 const NODES: u32 = MOST_NODES as u32;
 
-#[derive(Drop)]
+#[derive(Clone, Copy)]
 pub enum Verdict {
     Accepted,
     Refused(Refusal),
 }
 
 // Where the verdict is a refusal the tables mean nothing.
-#[derive(Drop)]
+#[derive(Clone, Copy)]
 pub struct Parsed {
     pub verdict: Verdict,
     pub tables: Tables,
@@ -38,7 +38,7 @@ pub struct Parsed {
 
 // The next line starts at `at` and has the number `line`. Where `at` is nowhere the text is refused by `refusal`, which
 // means nothing elsewhere.
-#[derive(Drop)]
+#[derive(Clone, Copy)]
 struct Cursor {
     at: usize,
     line: u64,
@@ -46,21 +46,21 @@ struct Cursor {
 }
 
 // A line that was read, and the cursor after it. Where it is refused its values mean nothing.
-#[derive(Drop)]
+#[derive(Clone, Copy)]
 struct CountLine {
     cursor: Cursor,
     value: u32,
 }
 
 // The counts of a line read as far as `next`. Where one of them is not `ranged` they mean nothing.
-#[derive(Drop)]
+#[derive(Clone, Copy)]
 struct UnitCounts {
     next: usize,
     ranged: bool,
     units: [u8; MOST_RESOURCES],
 }
 
-#[derive(Drop)]
+#[derive(Clone, Copy)]
 struct ActivityLine {
     cursor: Cursor,
     duration: u16,
@@ -68,27 +68,27 @@ struct ActivityLine {
 }
 
 // Lines that were read, and the cursor after them.
-#[derive(Drop)]
+#[derive(Clone, Copy)]
 struct CapacityTable {
     cursor: Cursor,
     capacity: [u8; MOST_RESOURCES],
 }
 
-#[derive(Drop)]
+#[derive(Clone, Copy)]
 struct ActivityTable {
     cursor: Cursor,
     duration: [u16; MOST_ACTS],
     units: [u8; UNIT_CELLS],
 }
 
-#[derive(Drop)]
+#[derive(Clone, Copy)]
 struct NodeLine {
     cursor: Cursor,
     letter: u8,
     number: u8,
 }
 
-#[derive(Drop)]
+#[derive(Clone, Copy)]
 struct NodeTable {
     cursor: Cursor,
     letter: [u8; MOST_NODES],

@@ -15,35 +15,35 @@ ghost use Rattle.pick.specs.Model.{drafted, Grown, OfTerm, OfEach};
 use plan::MOST_NODES;
 
 // For each node, where the term that it begins ends, and how many variants that term has.
-#[derive(Drop)]
+#[derive(Clone, Copy)]
 pub struct Spans {
     pub next: [usize; MOST_NODES],
     pub count: [u32; MOST_NODES],
 }
 
 // The nodes of one variant. What stands past their count means nothing.
-#[derive(Drop)]
+#[derive(Clone, Copy)]
 pub struct Picked {
     pub nodes: usize,
     pub letter: [u8; MOST_NODES],
     pub number: [u8; MOST_NODES],
 }
 
-#[derive(Drop)]
+#[derive(Clone, Copy)]
 struct Span {
     next: usize,
     count: u32,
 }
 
 // A place among the nodes, and a variant of the term there.
-#[derive(Drop)]
+#[derive(Clone, Copy)]
 struct Place {
     at: usize,
     v: u32,
 }
 
 // A variant of several terms: that of the first one, that of the others, and how many the others have.
-#[derive(Drop)]
+#[derive(Clone, Copy)]
 struct Digits {
     first: u32,
     rest: u32,
@@ -51,7 +51,7 @@ struct Digits {
 }
 
 // How many nodes are written so far, and how many children the group that is being written has.
-#[derive(Drop)]
+#[derive(Clone, Copy)]
 struct Draft {
     at: usize,
     children: u8,

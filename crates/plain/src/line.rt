@@ -6,7 +6,7 @@ const VALUES: usize = 1 + RESOURCES;
 
 // A line as far as it is read: whether it is well formed, where it goes on, its letter, and its values, with 0 behind
 // them.
-#[derive(Drop)]
+#[derive(Clone, Copy)]
 pub struct Line {
     pub ok: bool,
     pub at: usize,
@@ -16,7 +16,7 @@ pub struct Line {
 }
 
 // The digits at a place, up to the first byte that is none, six at most.
-#[derive(Drop)]
+#[derive(Clone, Copy)]
 struct Digits {
     ended: bool,
     count: usize,

@@ -3,7 +3,7 @@
 use crate::tables::{NONE, Plan};
 use crate::{ACTS, NODES};
 
-#[derive(Drop)]
+#[derive(Clone, Copy)]
 pub struct Picks {
     pub turned: bool,
     pub digit: [u32; NODES],
@@ -19,7 +19,7 @@ pub fn first() -> Picks {
 
 // The nodes that remain, the node and the duration of each activity (NONE and 0 where absent), one more than the sum
 // of the durations, and whether an activity stands there twice.
-#[derive(Drop)]
+#[derive(Clone, Copy)]
 pub struct Variant {
     pub remains: [bool; NODES],
     pub node: [usize; ACTS],

@@ -7,7 +7,7 @@ use crate::{ACTS, COUNTS, NODES, RESOURCES};
 // Stands for no node: the parent of the root, and the node of an absent activity.
 pub const NONE: usize = NODES;
 
-#[derive(Drop)]
+#[derive(Clone, Copy)]
 pub struct Plan {
     ok: bool,
     // the units that each resource has

@@ -13,7 +13,7 @@ const LINES: u64 = (5 + RESOURCES + ACTS + NODES) as u64;
 // The number and the figure of the refusal, 0 where there is none; the place of the next line; the latest count; the
 // edition; how many resources, activities and nodes there are; the units of the resources and how many lines have given
 // them; and the places of the first activity's line and the first node's.
-#[derive(Drop)]
+#[derive(Clone, Copy)]
 pub struct Text {
     pub number: u64,
     pub figure: u64,

@@ -5,7 +5,7 @@ use crate::tables::Plan;
 
 // Number 0 stands for no refusal. Where the variants are too many to look at, and none of those looked at has an
 // activity twice, it is not known which refusal it is.
-#[derive(Drop)]
+#[derive(Clone, Copy)]
 pub struct Judged {
     pub known: bool,
     pub number: u64,
@@ -16,7 +16,7 @@ pub struct Judged {
 }
 
 // How many variants were looked at, whether there are more, and whether one of them has an activity twice.
-#[derive(Drop)]
+#[derive(Clone, Copy)]
 struct Survey {
     variants: u32,
     more: bool,

@@ -4,7 +4,7 @@ use plain::{NODES, NONE, Plan, Variant};
 
 // Which nodes are kept and how many there are; the kept node that the children of a node come under, NONE where there
 // is none; and how many kept children a kept node has.
-#[derive(Drop)]
+#[derive(Clone, Copy)]
 pub struct Term {
     pub nodes: u32,
     kept: [bool; NODES],

@@ -48,7 +48,7 @@ pub const NODES_FORM: [u8; 8] = *b"nodes=#\n";
 pub const NODE_FORM: [u8; 9] = *b"node=@,#\n";
 
 // Why a call turns its input back. `number_of` and `figure_of` give the paper's number and figure of each case.
-#[derive(Drop)]
+#[derive(Clone, Copy)]
 pub enum Refusal {
     Length,
     Form(u64),
@@ -105,7 +105,7 @@ pub const UNIT_CELLS: usize = MOST_ACTS * MOST_RESOURCES;
 // The values of a plan file: the capacity of each of `resources` resources, a duration for each of `acts` activities
 // and the units that it holds of each resource, and for each of `nodes` nodes its letter and its number. What stands
 // past those counts means nothing.
-#[derive(Drop)]
+#[derive(Clone, Copy)]
 pub struct Tables {
     pub edition: u16,
     pub resources: usize,

@@ -3,7 +3,7 @@ use crate::usage::complain;
 use arguments::{Number, Placed, Placing};
 use timetable::Timetable;
 
-#[derive(Drop)]
+#[derive(Clone, Copy)]
 pub enum Command {
     Help,
     Read,
@@ -17,7 +17,7 @@ pub enum Command {
 }
 
 // A command with the number that it takes, a variant or a cap, and the timetable of a check.
-#[derive(Drop)]
+#[derive(Clone, Copy)]
 pub struct Request {
     pub command: Command,
     pub number: u32,

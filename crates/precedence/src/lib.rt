@@ -17,7 +17,7 @@ use plan::{MOST_ACTS, MOST_NODES};
 use variant::Variant;
 
 // What a reader found: the node after what it read, and its activities.
-#[derive(Drop)]
+#[derive(Clone, Copy)]
 struct Walk {
     next: usize,
     set: u32,

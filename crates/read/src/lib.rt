@@ -7,7 +7,7 @@ ghost use Rattle.read.specs.Answer.{read_of};
 use parser::Verdict;
 use plan::Refusal;
 
-#[derive(Drop)]
+#[derive(Clone, Copy)]
 pub enum ReadAnswer {
     Read {
         acts: u64,

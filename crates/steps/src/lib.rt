@@ -24,7 +24,7 @@ use sets::{after_lowest, lowest};
 // contested components that are still to be resolved there; and those placed and not frozen that a frozen one of their
 // component has passed by start and number; and the frozen that may end behind the last start of their component. The
 // working array has the diagram.
-#[derive(Drop)]
+#[derive(Clone, Copy)]
 pub struct Line {
     pub tick: u32,
     pub placed: u32,
@@ -57,7 +57,7 @@ pub fn loose(line: Line) -> u32
 }
 
 // A stopping time, and the components of those not frozen that end on it.
-#[derive(Drop)]
+#[derive(Clone, Copy)]
 pub struct Stop {
     pub tick: u32,
     pub due: u32,
@@ -165,7 +165,7 @@ pub fn shift(table: &Table, work: &mut Work, line: Line, j: usize) -> u32
 }
 
 // T without the frozen activities that have ended, and the first end of those that it keeps.
-#[derive(Drop)]
+#[derive(Clone, Copy)]
 pub struct Expired {
     pub term: u32,
     pub first: u32,

@@ -21,7 +21,7 @@ use timetable::Timetable;
 
 // How many schedules were found and how many of them are shortest; of the first of these the latest end, the variant
 // and the starts.
-#[derive(Drop)]
+#[derive(Clone, Copy)]
 pub struct Tally {
     pub count: u64,
     pub ties: u64,

@@ -10,7 +10,7 @@ ghost use Rattle.term_reader.specs.Walk.{Held, together_of, joined_of, TermRead,
 use plan::MOST_NODES;
 
 // Where the nodes are not one whole term, `twice` is false.
-#[derive(Drop)]
+#[derive(Clone, Copy)]
 pub struct Reading {
     pub whole: bool,
     pub twice: bool,
@@ -18,7 +18,7 @@ pub struct Reading {
 
 // What a reader found: the node after what it read, its activities, and whether one of its variants has an activity
 // twice. Where the nodes run out there is nothing.
-#[derive(Drop)]
+#[derive(Clone, Copy)]
 struct Walk {
     ok: bool,
     next: usize,

@@ -7,7 +7,7 @@ ghost use Rattle.timetable.specs.Mark.{no_starts};
 use plan::MOST_ACTS;
 
 // A start is in ticks; an absent activity has the mark.
-#[derive(Drop)]
+#[derive(Clone, Copy)]
 pub struct Timetable {
     pub starts: [u32; MOST_ACTS],
 }

@@ -53,7 +53,7 @@ fn freeze(work: &mut Work, line: Line, i: usize, component: usize) -> Line
 
 // Where the moves without a branch have led: the line, the latest frozen end, how many activities are left that may yet
 // be contested, and those of the first component that several contest, or none.
-#[derive(Drop)]
+#[derive(Clone, Copy)]
 pub struct Reached {
     pub line: Line,
     pub latest: u32,

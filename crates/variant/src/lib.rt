@@ -6,7 +6,7 @@ use plan::MOST_ACTS;
 
 // What a variant adds to the tables of its plan: the set of the activities that it has, and for each activity number
 // the set of those before it.
-#[derive(Drop)]
+#[derive(Clone, Copy)]
 pub struct Variant {
     pub present: u32,
     pub preds: [u32; MOST_ACTS],

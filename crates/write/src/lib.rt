@@ -14,7 +14,7 @@ use judge::Campaign;
 use parser::Verdict;
 use plan::{Refusal, Tables};
 
-#[derive(Drop)]
+#[derive(Clone, Copy)]
 pub enum WriteAnswer {
     // How many bytes were written.
     Written(u64),

@@ -14,7 +14,7 @@ ghost use Rattle.writer.specs.Wrote.{Wrote, WrotePiece, LettersFit, HoldsText};
 use plan::{MOST_ACTS, MOST_NODES, MOST_RESOURCES, Tables, UNIT_CELLS};
 
 // A line that is written as far as `at`, with the values that are next.
-#[derive(Drop)]
+#[derive(Clone, Copy)]
 struct Line {
     at: usize,
     first: u16,
