@@ -84,8 +84,8 @@ abbrev pub capacity_at : List ℕ → ℕ → ℕ
 capacity_at t r = get_or t (capacity_from + r) 0
 
 -- The number of a component is its least activity.
-abbrev pub field_own : List ℕ → ℕ → ℕ
-field_own t i = lowest_of (component_at t i)
+abbrev pub own_at : List ℕ → ℕ → ℕ
+own_at t i = lowest_of (component_at t i)
 
 abbrev pub resources_of : List ℕ → ℕ
 resources_of t = get_or t resources_cell 0

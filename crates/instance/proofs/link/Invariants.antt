@@ -1,0 +1,19 @@
+use Prim.Native.Nat.{◌+◌, ◌^◌, ◌<◌}
+use native.Mathlib.Omega.{arith}
+use mathlib.Core.Path.{ap, ◌∙◌}
+use lib.Bits.{bit_or}
+use lib.ListN.{get_or}
+use Rattle.sets.specs.Sets.{most}
+use Rattle.sets.proofs.Members.{lowest_below, after_less}
+use Rattle.instance.specs.Table.{next_from}
+use Rattle.instance.proofs.Stores.{Storing, storing_none, storing_more, storing_all}
+use Rattle.instance.proofs.Links.{linked_all}
+use Rattle.instance.proofs.link.Given as goal
+
+-- `link` meets its contract. The loop's invariant: with the members still to come linked too, the column is what it
+-- is to be.
+abbrev pub invariant-loop-rest : goal.invariant-loop-rest
+invariant-loop-rest l = Storing next_from (λ x. bit_or x (2 ^ l.j)) l.initial.table l.set l.table l.rest
+
+abbrev pub decreases-loop-rest : goal.decreases-loop-rest
+decreases-loop-rest l = l.rest

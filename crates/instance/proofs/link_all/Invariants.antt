@@ -1,0 +1,14 @@
+use Prim.Native.Nat.{◌+◌, ◌-◌, ◌≤◌}
+use native.Mathlib.Omega.{arith}
+use mathlib.Core.Path.{◌∙◌}
+use lib.ListN.{length-set}
+use Rattle.instance.specs.Table.{preds_from, near_from}
+use Rattle.instance.proofs.Links.{Linking, linking_none, linking_more, linking_all}
+use Rattle.instance.proofs.link_all.Given as goal
+
+-- `link_all` meets its contract. The loop's invariant: the activities passed are linked, the others not yet.
+abbrev pub invariant-loop-j : goal.invariant-loop-j
+invariant-loop-j l = (l.j ≤ l.acts) × Linking l.initial.table l.j l.table
+
+abbrev pub decreases-loop-j : goal.decreases-loop-j
+decreases-loop-j l = l.acts - l.j

@@ -1,0 +1,17 @@
+use Prim.Native.Nat.{◌-◌, ◌≤◌}
+use native.Mathlib.Omega.{arith}
+use mathlib.Core.Bool.{Bool}
+use mathlib.Core.Path.{ap, ◌∙◌}
+use Rattle.instance.specs.Instance.{own_of, is_tight}
+use Rattle.instance.specs.Table.{resources_of}
+use Rattle.instance.specs.Steps.{with_if, Passing}
+use Rattle.instance.proofs.Fill.{passing_none, passing_more, passing_all}
+use Rattle.instance.proofs.Clashes.{tight_is}
+use Rattle.instance.proofs.tight.Given as goal
+
+-- `tight` meets its contract.
+abbrev pub invariant-loop-i : goal.invariant-loop-i
+invariant-loop-i l = (l.i ≤ l.acts) × Passing l.i (λ k. is_tight l.table (own_of l.table k)) l.set
+
+abbrev pub decreases-loop-i : goal.decreases-loop-i
+decreases-loop-i l = l.acts - l.i

@@ -1,0 +1,15 @@
+use Prim.Native.Nat.{ℕ, ◌-◌, ◌≤◌}
+use native.Mathlib.Omega.{arith}
+use mathlib.Core.Path.{ap, ◌∙◌}
+use lib.Dec.{ltb}
+use Rattle.instance.specs.Table.{units_at}
+use Rattle.instance.specs.Steps.{with_if, Passing}
+use Rattle.instance.proofs.Fill.{passing_none, passing_more, passing_all}
+use Rattle.instance.proofs.users.Given as goal
+
+-- `users` meets its contract.
+abbrev pub invariant-loop-i : goal.invariant-loop-i
+invariant-loop-i l = (l.i ≤ l.acts) × Passing l.i (λ k. ltb 0 (units_at l.table k l.r)) l.set
+
+abbrev pub decreases-loop-i : goal.decreases-loop-i
+decreases-loop-i l = l.acts - l.i

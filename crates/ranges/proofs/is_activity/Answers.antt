@@ -1,0 +1,13 @@
+use mathlib.Core.Path.{sym, ◌∙◌}
+use Rattle.ranges.proofs.Units.{own_there, own_past}
+use borrow.Author.Rules.{rules}
+use Rattle.ranges.proofs.is_activity.Goals as goal
+
+pub returns-then-resource-resources : goal.returns-then-resource-resources
+returns-then-resource-resources c =
+    c.is_duration.ensures
+    ∙ sym (own_there c.args.resources c.args.resource c.args.duration c.if-resource-resources.true)
+
+pub returns-else-resource-resources : goal.returns-else-resource-resources
+returns-else-resource-resources c =
+    sym (own_past c.args.resources c.args.resource c.args.duration c.if-resource-resources.false)
