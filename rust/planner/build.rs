@@ -1,5 +1,4 @@
-//! Links target/staticlib/libvialbluff.a, which `rt staticlib vialbluff` writes, unless the feature `stand-in` is asked
-//! for.
+//! Links target/staticlib/libvialbluff.a, which `rust/library` writes, unless the feature `stand-in` is asked for.
 
 use std::path::Path;
 
@@ -13,7 +12,7 @@ fn main() {
     let folder = Path::new(env!("CARGO_MANIFEST_DIR")).join("../../target/staticlib");
     let archive = folder.join(format!("lib{LIBRARY}.a"));
     println!("cargo:rerun-if-changed={}", archive.display());
-    assert!(archive.is_file(), "{} is not there: run `rt staticlib {LIBRARY}` first", archive.display());
+    assert!(archive.is_file(), "{} is not there: run `rust/library` first", archive.display());
     println!("cargo:rustc-link-search=native={}", folder.display());
     println!("cargo:rustc-link-lib=static={LIBRARY}");
 }

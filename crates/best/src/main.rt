@@ -1,15 +1,15 @@
 // A shortest session of the plan file on standard input, with the number of active sessions, or the refusal.
 #![tactic(auto)]
 
-fn main() {
+fn main(rt: HostRuntime) {
     let mut file = [0u8; console::FILE];
-    let input = console::read_input(&mut file);
+    let input = console::read_input(&mut rt.stdin(), &mut file);
     if !input.is_read {
-        os::fail(b"standard input");
+        console::fail(&mut rt.stderr(), b"standard input");
         return;
     }
     let n = input.length;
-    if !console::put_best(calls::best(&file[..n], 1000000)) {
-        os::fail(b"standard output");
+    if !console::put_best(&mut rt.stdout(), calls::best(&file[..n], 1000000)) {
+        console::fail(&mut rt.stderr(), b"standard output");
     }
 }

@@ -1,3 +1,5 @@
+use std::io::Write;
+
 // What WRITE and CHECK were asked: whether each answer was that of the plain side, how many variants were written out,
 // and how many timetables are sessions and how many are not.
 #[derive(Clone, Copy)]
@@ -47,8 +49,8 @@ pub fn joined(t: Asked, other: Asked) -> Asked {
     }
 }
 
-pub fn put(t: Asked) {
-    console::put_line(b"written variants=", t.variants);
-    console::put_line(b"checked yes=", t.yes);
-    console::put_line(b"checked no=", t.no);
+pub fn put<W: Write>(out: &mut W, t: Asked) {
+    console::put_line(out, b"written variants=", t.variants);
+    console::put_line(out, b"checked yes=", t.yes);
+    console::put_line(out, b"checked no=", t.no);
 }

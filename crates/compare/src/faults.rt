@@ -1,5 +1,6 @@
 // READ, WRITE and CHECK on generated plans with a fault put in.
 use crate::asked::Asked;
+use std::io::Write;
 
 // The files made of each plan, and of all.
 const FAULTS: u64 = 32;
@@ -45,7 +46,7 @@ fn counted(files: [u64; NUMBERS], number: u64) -> [u64; NUMBERS] {
 }
 
 // The file of one more seed.
-fn with_seed(t: Totals, seed: u64) -> Totals {
+fn with_seed<W: Write>(out: &mut W, t: Totals, seed: u64) -> Totals {
     let mut file = [0u8; 1024];
     let n = generator::generate(seed / FAULTS, &mut file);
     let m = generator::damage(seed, &mut file, n);
@@ -53,9 +54,9 @@ fn with_seed(t: Totals, seed: u64) -> Totals {
     let own = crate::agreement::file_compared(&file[..m], j);
     let is_same = j.known & own.same;
     if !j.known {
-        console::put_line(b"fault_not_compared=", seed);
+        console::put_line(out, b"fault_not_compared=", seed);
     } else if !is_same {
-        console::put_line(b"fault_differs=", seed);
+        console::put_line(out, b"fault_differs=", seed);
     }
     let files = t.files;
     let before = t.asked;
@@ -67,7 +68,7 @@ fn with_seed(t: Totals, seed: u64) -> Totals {
     }
 }
 
-fn over_seeds() -> Totals {
+fn over_seeds<W: Write>(out: &mut W) -> Totals {
     let mut t = Totals {
         known: 0,
         agree: 0,
@@ -75,35 +76,35 @@ fn over_seeds() -> Totals {
         files: [0; NUMBERS],
     };
     for seed in 0..FILES {
-        t = with_seed(t, seed);
+        t = with_seed(out, t, seed);
     }
     t
 }
 
-fn put_number(place: usize, files: u64) {
+fn put_number<W: Write>(out: &mut W, place: usize, files: u64) {
     let number = number_at(place);
     if number == 0 {
-        console::put(b"accepted");
+        console::put(out, b"accepted");
     } else {
-        console::put(b"refused=");
-        console::put_number(number);
+        console::put(out, b"refused=");
+        console::put_number(out, number);
     }
-    console::put_line(b" files=", files);
+    console::put_line(out, b" files=", files);
 }
 
-fn put_numbers(files: [u64; NUMBERS]) {
+fn put_numbers<W: Write>(out: &mut W, files: [u64; NUMBERS]) {
     for i in 0..NUMBERS {
-        put_number(i, files[i]);
+        put_number(out, i, files[i]);
     }
 }
 
-pub fn put_all() {
-    let t = over_seeds();
+pub fn put_all<W: Write>(out: &mut W) {
+    let t = over_seeds(out);
     let files = t.files;
-    console::put_line(b"faults=", FILES);
-    console::put_line(b"known=", t.known);
-    console::put_line(b"agree=", t.agree);
+    console::put_line(out, b"faults=", FILES);
+    console::put_line(out, b"known=", t.known);
+    console::put_line(out, b"agree=", t.agree);
     let asked = t.asked;
-    crate::asked::put(asked);
-    put_numbers(files);
+    crate::asked::put(out, asked);
+    put_numbers(out, files);
 }

@@ -12,6 +12,7 @@ mod timetables;
 mod written;
 
 use asked::Asked;
+use std::io::Write;
 
 const PLANS: u64 = 300;
 
@@ -33,14 +34,14 @@ fn with_test(n: u64, holds: bool) -> u64 {
 }
 
 // The plan of one more seed.
-fn with_seed(t: Totals, seed: u64) -> Totals {
+fn with_seed<W: Write>(out: &mut W, t: Totals, seed: u64) -> Totals {
     let mut file = [0u8; 1024];
     let n = generator::generate(seed, &mut file);
     let c = agreement::compared(&file[..n]);
     if !c.known {
-        console::put_line(b"not_compared=", seed);
+        console::put_line(out, b"not_compared=", seed);
     } else if !c.same {
-        console::put_line(b"differs=", seed);
+        console::put_line(out, b"differs=", seed);
     }
     let before = t.asked;
     let asked = c.asked;
@@ -51,25 +52,27 @@ fn with_seed(t: Totals, seed: u64) -> Totals {
     }
 }
 
-fn over_seeds() -> Totals {
+fn over_seeds<W: Write>(out: &mut W) -> Totals {
     let mut t = Totals {
         known: 0,
         agree: 0,
         asked: asked::none(),
     };
     for seed in 0..PLANS {
-        t = with_seed(t, seed);
+        t = with_seed(out, t, seed);
     }
     t
 }
 
-fn main() {
-    let t = over_seeds();
-    console::put_line(b"plans=", PLANS);
-    console::put_line(b"known=", t.known);
-    console::put_line(b"agree=", t.agree);
+fn main(rt: HostRuntime) {
+    let mut stdout = rt.stdout();
+    let out = &mut stdout;
+    let t = over_seeds(out);
+    console::put_line(out, b"plans=", PLANS);
+    console::put_line(out, b"known=", t.known);
+    console::put_line(out, b"agree=", t.agree);
     let asked = t.asked;
-    asked::put(asked);
-    faults::put_all();
-    campaigns::put_all();
+    asked::put(out, asked);
+    faults::put_all(out);
+    campaigns::put_all(out);
 }

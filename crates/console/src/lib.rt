@@ -1,12 +1,12 @@
-// Standard input and output of the programs. Each `put_` function answers whether all of its text was written.
+// Standard input and output of the programs, as a reader and a writer. Each `put_` function answers whether all of its
+// text was written.
 #![tactic(auto)]
 
-ghost use Rattle.std.specs.Prelude.{◌+◌, ◌≤◌, length};
-ghost use Rattle.io.specs.Counts.{IsPrefixLen};
+ghost use Rattle.std.specs.Prelude.{◌+◌, ◌≤◌, ◌≡◌, length, take};
 
 use answers::{Best, BestAnswer};
-use libc::{STDIN_FILENO, STDOUT_FILENO};
 use plan::Refusal;
+use std::io::{Read, Write};
 use timetable::Timetable;
 
 // An area for a plan file: one byte more than an accepted one has, so that a longer one is seen to be longer.
@@ -20,25 +20,30 @@ pub struct Input {
 }
 
 // Reads once, to the area's place `from` and on. A count of 0 is the end of the input or a failed read.
-fn read_at(area: &mut [u8], from: usize) -> Input
+fn read_at<R: Read>(reader: &mut R, area: &mut [u8], from: usize) -> Input
     requires { from ≤ length area.old }
     ensures { from + result.length ≤ length area.new }
 {
-    let part = &mut area[from..];
-    let got = libc::read(STDIN_FILENO, part);
-    Input {
-        is_read: got >= 0,
-        length: io::count(got, part),
+    match reader.read(&mut area[from..]) {
+        Ok(length) => Input {
+            is_read: true,
+            length,
+        },
+        Err(_) => Input {
+            is_read: false,
+            length: 0,
+        },
     }
 }
 
-// Standard input to its end, or as much of it as the area holds.
-pub fn read_input(area: &mut [u8]) -> Input
-    ensures { IsPrefixLen result.length area.new }
+// What a reader, as standard input, gives to its end, or as much of it as the area holds.
+pub fn read_input<R: Read>(reader: &mut R, area: &mut [u8]) -> Input
+    ensures within { result.length ≤ length area.new }
+    ensures part { result.length ≡ length (take result.length area.new) }
 {
     let mut length = 0;
     while length < area.len() {
-        let more = read_at(area, length);
+        let more = read_at(reader, area, length);
         if more.length == 0 {
             return Input {
                 is_read: more.is_read,
@@ -53,63 +58,83 @@ pub fn read_input(area: &mut [u8]) -> Input
     }
 }
 
-pub fn put(text: &[u8]) -> bool {
-    io::write_all(STDOUT_FILENO, text)
+pub fn put<W: Write>(out: &mut W, text: &[u8]) -> bool {
+    out.write_all(text).is_ok()
 }
 
-pub fn put_number(n: u64) -> bool {
-    io::print_decimal(STDOUT_FILENO, n)
+pub fn put_number<W: Write>(out: &mut W, n: u64) -> bool {
+    write!(out, "{n}").is_ok()
+}
+
+// A line for standard error: what failed, as the caller names it.
+pub fn fail<W: Write>(out: &mut W, what: &[u8]) -> bool {
+    put(out, what) && put(out, b": failed\n")
 }
 
 // A line `key=` and a number; the key comes with its `=`.
-pub fn put_line(key: &[u8], n: u64) -> bool {
-    put(key) && put_number(n) && put(b"\n")
+pub fn put_line<W: Write>(out: &mut W, key: &[u8], n: u64) -> bool {
+    put(out, key) && put_number(out, n) && put(out, b"\n")
 }
 
-pub fn put_refusal(refusal: Refusal) -> bool {
-    put_line(b"refused=", plan::number(refusal)) && put_line(b"figure=", plan::figure(refusal))
+pub fn put_refusal<W: Write>(out: &mut W, refusal: Refusal) -> bool {
+    put_line(out, b"refused=", plan::number(refusal))
+        && put_line(out, b"figure=", plan::figure(refusal))
 }
 
 // The line that says in words why a call refused.
-pub fn put_reason(refusal: Refusal) -> bool {
+pub fn put_reason<W: Write>(out: &mut W, refusal: Refusal) -> bool {
     match refusal {
-        Refusal::Length => put(b"reason=The plan file is empty or longer than 2175 bytes.\n"),
+        Refusal::Length => put(
+            out,
+            b"reason=The plan file is empty or longer than 2175 bytes.\n",
+        ),
         Refusal::Form(_) => put(
+            out,
             b"reason=The line of that number is absent or ill formed, or follows the last line of the plan.\n",
         ),
         Refusal::Range(_) => put(
+            out,
             b"reason=A value on the line of that number is out of its range.\n",
         ),
         Refusal::GroupOfOne(_) => put(
+            out,
             b"reason=The group on the line of that number has a single child.\n",
         ),
         Refusal::OverCapacity(_) => put(
+            out,
             b"reason=A count of units on the line of that number is above the capacity of its device.\n",
         ),
-        Refusal::NotOneTerm => put(b"reason=The nodes are not one whole term.\n"),
-        Refusal::Twice => put(b"reason=Some variant has an activity twice.\n"),
-        Refusal::TooManyVariants => put(b"reason=The plan has more than 4096 variants.\n"),
-        Refusal::NoSuchVariant => put(b"reason=The plan has no variant of that number.\n"),
-        Refusal::OverCap => put(b"reason=The plan has more active sessions than the cap.\n"),
+        Refusal::NotOneTerm => put(out, b"reason=The nodes are not one whole term.\n"),
+        Refusal::Twice => put(out, b"reason=Some variant has an activity twice.\n"),
+        Refusal::TooManyVariants => put(out, b"reason=The plan has more than 4096 variants.\n"),
+        Refusal::NoSuchVariant => put(out, b"reason=The plan has no variant of that number.\n"),
+        Refusal::OverCap => put(
+            out,
+            b"reason=The plan has more active sessions than the cap.\n",
+        ),
         Refusal::AreaTooShort(_) => put(
+            out,
             b"reason=The answer needs as much room as the figure says, which is more than there is.\n",
         ),
     }
 }
 
 // The start of an activity that is present.
-fn put_start(activity: usize, start: u32) -> bool {
+fn put_start<W: Write>(out: &mut W, activity: usize, start: u32) -> bool {
     if start == Timetable::MARK {
         return true;
     }
-    put(b"start=") && put_number(activity as u64) && put(b",") && put_line(b"", start as u64)
+    put(out, b"start=")
+        && put_number(out, activity as u64)
+        && put(out, b",")
+        && put_line(out, b"", start as u64)
 }
 
-pub fn put_starts(timetable: Timetable) -> bool {
+pub fn put_starts<W: Write>(out: &mut W, timetable: Timetable) -> bool {
     let starts = timetable.starts;
     let mut i = 0;
     while i < plan::MOST_ACTS {
-        if !put_start(i, starts[i]) {
+        if !put_start(out, i, starts[i]) {
             return false;
         }
         i += 1;
@@ -118,12 +143,12 @@ pub fn put_starts(timetable: Timetable) -> bool {
 }
 
 // The variant and the makespan of a session.
-pub fn put_session(variant: u64, makespan: u64) -> bool {
-    put_line(b"variant=", variant) && put_line(b"makespan=", makespan)
+pub fn put_session<W: Write>(out: &mut W, variant: u64, makespan: u64) -> bool {
+    put_line(out, b"variant=", variant) && put_line(out, b"makespan=", makespan)
 }
 
 // A shortest session and the number of active ones, or the refusal.
-pub fn put_best(best: Best) -> bool {
+pub fn put_best<W: Write>(out: &mut W, best: Best) -> bool {
     let answer = best.answer;
     let timetable = best.timetable;
     match answer {
@@ -132,7 +157,11 @@ pub fn put_best(best: Best) -> bool {
             makespan,
             count,
             shortest: _,
-        } => put_session(variant, makespan) && put_line(b"count=", count) && put_starts(timetable),
-        BestAnswer::Refused(r) => put_refusal(r),
+        } => {
+            put_session(out, variant, makespan)
+                && put_line(out, b"count=", count)
+                && put_starts(out, timetable)
+        }
+        BestAnswer::Refused(r) => put_refusal(out, r),
     }
 }

@@ -1,7 +1,15 @@
 // The words of the command line, read into a request. A word that is wrong is reported here.
+ghost use Rattle.std.specs.Prelude.{◌≤◌, length};
+
 use crate::usage::complain;
 use arguments::{Number, Placed, Placing};
+use std::env::FillError;
+use std::io::Write;
+use std::rt::Env;
 use timetable::Timetable;
+
+// The longest word.
+pub const WORD: usize = 4096;
 
 #[derive(Clone, Copy)]
 pub enum Command {
@@ -33,51 +41,61 @@ fn bare(command: Command) -> Request {
 }
 
 fn command_of(word: &[u8]) -> Command {
-    if check::same(word, b"help") {
-        return Command::Help;
+    match word {
+        b"help" => Command::Help,
+        b"read" => Command::Read,
+        b"write" => Command::Write,
+        b"check" => Command::Check,
+        b"count" => Command::Count,
+        b"list" => Command::List,
+        b"best" => Command::Best,
+        _ => Command::Wrong,
     }
-    if check::same(word, b"read") {
-        return Command::Read;
+}
+
+// Is there a word at a place? At place 0 is the program's name.
+fn is_given<R: Env>(rt: &R, place: usize) -> bool {
+    let mut word = [0u8; WORD];
+    match rt.arg(place, &mut word) {
+        Err(FillError::NotPresent) => false,
+        _ => true,
     }
-    if check::same(word, b"write") {
-        return Command::Write;
+}
+
+// The length of the word at a place, which goes to the front of the area. One that is missing or longer than the area
+// counts as empty.
+fn word_at<R: Env>(rt: &R, place: usize, word: &mut [u8]) -> usize
+    ensures { result ≤ length word.new }
+{
+    match rt.arg(place, word) {
+        Ok(n) => n,
+        Err(_) => 0,
     }
-    if check::same(word, b"check") {
-        return Command::Check;
-    }
-    if check::same(word, b"count") {
-        return Command::Count;
-    }
-    if check::same(word, b"list") {
-        return Command::List;
-    }
-    if check::same(word, b"best") {
-        return Command::Best;
-    }
-    Command::Wrong
 }
 
 // The command that the first word names. Where there is no word, help is wanted.
-fn command_word() -> Command {
-    if os::arg_count() < 2 {
+fn command_word<R: Env, W: Write>(rt: &R, err: &mut W) -> Command {
+    if !is_given(rt, 1) {
         return Command::Help;
     }
-    let mut word = io::buffer();
-    let n = os::arg(1, &mut word);
+    let mut word = [0u8; WORD];
+    let n = word_at(rt, 1, &mut word);
     let command = command_of(&word[..n]);
     if let Command::Wrong = command {
-        complain(1, b" is not a command");
+        complain(rt, err, 1, b" is not a command");
     }
     command
 }
 
 // The number that the second word is.
-fn number_word() -> Number {
-    let mut word = io::buffer();
-    let n = os::arg(2, &mut word);
+fn number_word<R: Env, W: Write>(rt: &R, err: &mut W) -> Number {
+    let mut word = [0u8; WORD];
+    let n = word_at(rt, 2, &mut word);
     let number = arguments::number_of(&word[..n]);
     if let Number::NoNumber = number {
         complain(
+            rt,
+            err,
             2,
             b" has to be a number from 0 to 4294967295 with no leading zero",
         );
@@ -85,23 +103,25 @@ fn number_word() -> Number {
     number
 }
 
-fn cap_word() -> Number {
-    if os::arg_count() < 3 {
+fn cap_word<R: Env, W: Write>(rt: &R, err: &mut W) -> Number {
+    if !is_given(rt, 2) {
         return Number::Value(1000000);
     }
-    number_word()
+    number_word(rt, err)
 }
 
 // The timetable with the start that the word at a place gives.
-fn start_word(timetable: Timetable, place: usize) -> Placed {
-    let mut word = io::buffer();
-    let n = os::arg(place, &mut word);
+fn start_word<R: Env, W: Write>(rt: &R, err: &mut W, timetable: Timetable, place: usize) -> Placed {
+    let mut word = [0u8; WORD];
+    let n = word_at(rt, place, &mut word);
     let placed = arguments::place(timetable, &word[..n]);
     let outcome = placed.outcome;
     match outcome {
         Placing::Done => {}
-        Placing::Twice => complain(place, b" gives an activity a second start"),
+        Placing::Twice => complain(rt, err, place, b" gives an activity a second start"),
         Placing::NotAStart => complain(
+            rt,
+            err,
             place,
             b" has to be an activity from 0 to 23, a comma and a start from 0 to 4294967294",
         ),
@@ -119,17 +139,17 @@ fn is_done(placed: Placed) -> bool {
 }
 
 // The check of the starts that the words from the third on give.
-fn check_words(variant: u32) -> Request {
-    let count = os::arg_count();
+fn check_words<R: Env, W: Write>(rt: &R, err: &mut W, variant: u32) -> Request {
     let mut timetable = Timetable::empty();
-    let mut place = 3;
-    while place < count {
-        let placed = start_word(timetable, place);
+    for place in 3..usize::MAX {
+        if !is_given(rt, place) {
+            break;
+        }
+        let placed = start_word(rt, err, timetable, place);
         if !is_done(placed) {
             return bare(Command::Wrong);
         }
         timetable = placed.timetable;
-        place += 1;
     }
     Request {
         command: Command::Check,
@@ -139,28 +159,30 @@ fn check_words(variant: u32) -> Request {
 }
 
 // The request, unless a word stands at a place where none may: that is reported.
-fn ends_at(place: usize, request: Request) -> Request {
-    if os::arg_count() <= place {
+fn ends_at<R: Env, W: Write>(rt: &R, err: &mut W, place: usize, request: Request) -> Request {
+    if !is_given(rt, place) {
         return request;
     }
-    complain(place, b" is one too many");
+    complain(rt, err, place, b" is one too many");
     bare(Command::Wrong)
 }
 
-fn with_starts(variant: Number) -> Request {
+fn with_starts<R: Env, W: Write>(rt: &R, err: &mut W, variant: Number) -> Request {
     let Number::Value(variant) = variant else {
         return bare(Command::Wrong);
     };
-    check_words(variant)
+    check_words(rt, err, variant)
 }
 
 // The request of a command that takes one number.
-fn with_number(command: Command, number: Number) -> Request {
+fn with_number<R: Env, W: Write>(rt: &R, err: &mut W, command: Command, number: Number) -> Request {
     let Number::Value(number) = number else {
         return bare(Command::Wrong);
     };
     let timetable = Timetable::empty();
     ends_at(
+        rt,
+        err,
         3,
         Request {
             command,
@@ -170,13 +192,22 @@ fn with_number(command: Command, number: Number) -> Request {
     )
 }
 
-pub fn read_words() -> Request {
-    let command = command_word();
+pub fn read_words<R: Env, W: Write>(rt: &R, err: &mut W) -> Request {
+    let command = command_word(rt, err);
     match command {
         Command::Wrong => bare(command),
-        Command::Help | Command::Read => ends_at(2, bare(command)),
-        Command::Write => with_number(command, number_word()),
-        Command::Check => with_starts(number_word()),
-        Command::Count | Command::List | Command::Best => with_number(command, cap_word()),
+        Command::Help | Command::Read => ends_at(rt, err, 2, bare(command)),
+        Command::Write => {
+            let number = number_word(rt, err);
+            with_number(rt, err, command, number)
+        }
+        Command::Check => {
+            let variant = number_word(rt, err);
+            with_starts(rt, err, variant)
+        }
+        Command::Count | Command::List | Command::Best => {
+            let cap = cap_word(rt, err);
+            with_number(rt, err, command, cap)
+        }
     }
 }

@@ -2,23 +2,24 @@
 ghost use Rattle.std.specs.Prelude.{◌*◌, ◌≤◌, length};
 
 use console::put;
+use std::io::Write;
 use timetable::Timetable;
 
 // A cell of a row, after a comma where it is not the first.
-fn put_cell(i: usize, cell: u32) -> bool {
-    if 0 < i && !put(b",") {
+fn put_cell<W: Write>(out: &mut W, i: usize, cell: u32) -> bool {
+    if 0 < i && !put(out, b",") {
         return false;
     }
     if cell == Timetable::MARK {
-        return put(b"-");
+        return put(out, b"-");
     }
-    console::put_number(cell as u64)
+    console::put_number(out, cell as u64)
 }
 
-fn put_cells(row: &[u32]) -> bool {
+fn put_cells<W: Write>(out: &mut W, row: &[u32]) -> bool {
     let mut i = 0;
     while i < row.len() {
-        if !put_cell(i, row[i]) {
+        if !put_cell(out, i, row[i]) {
             return false;
         }
         i += 1;
@@ -27,19 +28,19 @@ fn put_cells(row: &[u32]) -> bool {
 }
 
 // `row=`, the variant and the start of each activity.
-fn put_row(row: &[u32]) -> bool {
-    put(b"row=") && put_cells(row) && put(b"\n")
+fn put_row<W: Write>(out: &mut W, row: &[u32]) -> bool {
+    put(out, b"row=") && put_cells(out, row) && put(out, b"\n")
 }
 
 // Rows that follow one another.
-pub fn put_rows(rows: usize, width: usize, cells: &[u32]) -> bool
+pub fn put_rows<W: Write>(out: &mut W, rows: usize, width: usize, cells: &[u32]) -> bool
     requires { rows * width ≤ length cells.now }
 {
     let mut row = 0;
     let mut at = 0;
     while row < rows {
         let next = at + width;
-        if !put_row(&cells[at..next]) {
+        if !put_row(out, &cells[at..next]) {
             return false;
         }
         at = next;

@@ -9,6 +9,7 @@ use Rattle.term.specs.Variants.{paired}
 pub paired_mem : {t : Term} {f : Forest} {ts : List Term} {fs : List Forest} → Memᴰ t ts → Memᴰ f fs
     → Memᴰ (cons t f) (paired ts fs)
 unfolding paired
+paired_mem {ts = []} m n = elim m [ ]
 paired_mem {t} {f} {ts = x ∷ xs} {fs} (Memᴰ.head e) n =
     Memᴰ.append_left (paired xs fs) (Memᴰ.cast (ap (λ (u : Term). cons u f) e) (Memᴰ.map (cons x) n))
 paired_mem {t} {f} {ts = x ∷ xs} {fs} (Memᴰ.tail m) n = Memᴰ.append_right (map (cons x) fs) (paired_mem m n)

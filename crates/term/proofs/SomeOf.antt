@@ -56,6 +56,7 @@ module _ {ℓ} {A : Type ℓ} where
 
   pub some_is : (p : A → Bool) {x : A} {xs : List A} → Memᴰ x xs → p x ≡ true → some_of p xs ≡ true
   unfolding some_of
+  some_is p {xs = []} m h = elim m [ ]
   some_is p {x} {xs = y ∷ ys} (Memᴰ.head e) h = ap (λ (b : Bool). b || some_of p ys) (ap p (sym e) ∙ h)
   some_is p {x} {xs = y ∷ ys} (Memᴰ.tail m) h = ap (◌||◌ (p y)) (some_is p m h) ∙ or-true (p y)
 

@@ -29,7 +29,7 @@ use Rattle.schedule.specs.Words.{InWords}
 use Rattle.schedule.proofs.Agree.{Feasible-agree}
 use Rattle.schedule.proofs.Load.{Has, Runs, holds, holds_all, runs_is, runs_there, end_le, ends_least, latest_reached}
 use Rattle.schedule.proofs.Load.{moved_same, moved_other}
-use Rattle.schedule.proofs.Makespan.{Opening, opens, empty, opening, earliest, earliest_le, makespan_is}
+use Rattle.schedule.proofs.Makespan.{Opening, opens, empty, opening, earliest_le, makespan_is}
 use Rattle.schedule.proofs.Reflect.{Feasible, Active, feasible_is, feasible_of}
 use Rattle.schedule.proofs.OneUnit.{feasible_in_words}
 use Rattle.variant.specs.Precedence.{precedes, within_one, earlier}

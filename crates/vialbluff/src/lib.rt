@@ -1,5 +1,5 @@
 // The calls for C and Rust, kept to numbers and slices. Each fills `out`: 0 and the values on success, else the
-// refusal's number and figure.
+// refusal's number and figure. `vialbluff_c` exports them.
 #![tactic(auto)]
 
 ghost use Rattle.std.specs.Prelude.{◌≡◌};
@@ -90,47 +90,32 @@ fn starts_of(a: BestAnswer, found: [u32; MOST_ACTS], before: [u32; MOST_ACTS]) -
     }
 }
 
-#[unsafe(no_mangle)]
-pub extern "C" fn vialbluff_read(file: &[u8], out: &mut [u64; 4])
+pub fn vialbluff_read(file: &[u8], out: &mut [u64; 4])
     ensures { out.new ≡ read_cells (read_of file.now) }
 {
     *out = of_read(read::read(file));
 }
 
-#[unsafe(no_mangle)]
-pub extern "C" fn vialbluff_write(file: &[u8], variant: u32, area: &mut [u8], out: &mut [u64; 4])
+pub fn vialbluff_write(file: &[u8], variant: u32, area: &mut [u8], out: &mut [u64; 4])
     ensures { WriteLeaves file.now variant area.old area.new out.new }
 {
     *out = of_write(write::write(file, variant, area));
 }
 
-#[unsafe(no_mangle)]
-pub extern "C" fn vialbluff_check(
-    file: &[u8],
-    variant: u32,
-    starts: &[u32; MOST_ACTS],
-    out: &mut [u64; 4],
-)
+pub fn vialbluff_check(file: &[u8], variant: u32, starts: &[u32; MOST_ACTS], out: &mut [u64; 4])
     ensures { out.new ≡ check_cells (check_of file.now variant starts.now) }
 {
     let given = *starts;
     *out = of_check(inspect::check(file, variant, Timetable { starts: given }));
 }
 
-#[unsafe(no_mangle)]
-pub extern "C" fn vialbluff_list(file: &[u8], cap: u32, area: &mut [u32], out: &mut [u64; 4])
+pub fn vialbluff_list(file: &[u8], cap: u32, area: &mut [u32], out: &mut [u64; 4])
     ensures { ListLeaves file.now cap area.old area.new out.new }
 {
     *out = of_list(calls::list(file, cap, area));
 }
 
-#[unsafe(no_mangle)]
-pub extern "C" fn vialbluff_best(
-    file: &[u8],
-    cap: u32,
-    starts: &mut [u32; MOST_ACTS],
-    out: &mut [u64; 5],
-)
+pub fn vialbluff_best(file: &[u8], cap: u32, starts: &mut [u32; MOST_ACTS], out: &mut [u64; 5])
     ensures { BestLeaves file.now cap starts.old starts.new out.new }
 {
     let best = calls::best(file, cap);

@@ -5,7 +5,7 @@ use lib.Bits.{bit_or}
 use Rattle.sets.specs.Sets.{most}
 use Rattle.sets.proofs.Members.{lowest_below, after_less}
 use Rattle.instance.specs.Table.{clash_at}
-use Rattle.instance.proofs.Clashes.{Facing, facing_none, facing_more, facing_no, facing_all}
+use Rattle.instance.proofs.Clashes.{facing_none, facing_more, facing_no, facing_all}
 use Rattle.instance.proofs.all_clash.Goals as goal
 use Rattle.instance.proofs.all_clash.Goals.{After-lowest-i}
 

@@ -1,11 +1,4 @@
-use Prim.Native.Nat.{◌<◌}
-use native.Mathlib.Omega.{arith}
-use mathlib.Core.Path.{ap, ◌∙◌}
-use lib.Bits.{bit_or}
-use Rattle.sets.specs.Sets.{most}
-use Rattle.sets.proofs.Members.{lowest_below, after_less}
-use Rattle.instance.specs.Table.{clash_at}
-use Rattle.instance.proofs.Clashes.{Facing, facing_none, facing_more, facing_no, facing_all}
+use Rattle.instance.proofs.Clashes.{Facing}
 use Rattle.instance.proofs.all_clash.Given as goal
 
 -- `all_clash` meets its contract. The loop's invariant: the members passed clash with every other member.

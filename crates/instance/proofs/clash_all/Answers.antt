@@ -1,7 +1,7 @@
-use Prim.Native.Nat.{◌+◌, ◌-◌, ◌≤◌}
+use Prim.Native.Nat.{◌+◌}
 use native.Mathlib.Omega.{arith}
 use Rattle.instance.specs.Table.{component_from, clash_from}
-use Rattle.instance.specs.Steps.{Filled, IsClash}
+use Rattle.instance.specs.Steps.{IsClash}
 use Rattle.instance.proofs.Fill.{filled_none, filled_more, filled_all}
 use Rattle.instance.proofs.Same.{clash_same, grouped_same, filled_same}
 use Rattle.instance.proofs.clash_all.Goals as goal

@@ -1,9 +1,6 @@
-use Prim.Native.Nat.{◌+◌, ◌-◌, ◌≤◌}
-use native.Mathlib.Omega.{arith}
-use Rattle.instance.specs.Table.{component_from, clash_from}
+use Prim.Native.Nat.{◌-◌, ◌≤◌}
+use Rattle.instance.specs.Table.{clash_from}
 use Rattle.instance.specs.Steps.{Filled, IsClash}
-use Rattle.instance.proofs.Fill.{filled_none, filled_more, filled_all}
-use Rattle.instance.proofs.Same.{clash_same, grouped_same, filled_same}
 use Rattle.instance.proofs.clash_all.Given as goal
 
 -- `clash_all` meets its contract.

@@ -1,13 +1,7 @@
-use Prim.Native.Nat.{ℕ, ◌-◌, ◌≤◌}
-use native.Mathlib.Omega.{arith}
-use mathlib.Core.Bool.{Bool, not}
-use mathlib.Core.Path.{sym, ap, ◌∙◌}
-use mathlib.Core.Path.{sym, ap, ◌∙◌, subst}
+use Prim.Native.Nat.{◌-◌, ◌≤◌}
+use mathlib.Core.Bool.{not}
 use Rattle.instance.specs.Instance.{fit_together}
-use Rattle.instance.specs.Table.{acts_of}
-use Rattle.instance.specs.Steps.{with_if, Passing, Grouped}
-use Rattle.instance.proofs.Fill.{passing_none, passing_more, passing_all}
-use Rattle.instance.proofs.Clashes.{clash_is}
+use Rattle.instance.specs.Steps.{Passing}
 use Rattle.instance.proofs.clashing.Given as goal
 
 -- `clashing` meets its contract.

@@ -1,4 +1,3 @@
-use borrow.Author.Rules.{rules}
 use Rattle.instance.proofs.Given.{columns_are}
 use Rattle.instance.proofs.columns.Goals as goal
 

@@ -1,15 +1,12 @@
 use Prim.Native.Nat.{ℕ, ◌-◌, ◌≤◌}
-use native.Mathlib.Omega.{arith}
 use mathlib.Core.Bool.{cond}
 use mathlib.Core.List.{List}
 use mathlib.Core.Path.{◌≡◌}
 use lib.Dec.{ltb}
 use lib.ListN.{get_or}
-use borrow.Author.Rules.{rules}
 use Rattle.plan.specs.Limits.{most_resources}
 use Rattle.instance.specs.Table.{capacity_from}
 use Rattle.instance.specs.Steps.{Filled}
-use Rattle.instance.proofs.Fill.{filled_none, filled_more, filled_all}
 use Rattle.instance.proofs.fill_capacities.Given as goal
 
 -- `fill_capacities` meets its contract.

@@ -1,10 +1,7 @@
-use Prim.Native.Nat.{ℕ, ◌+◌, ◌-◌, ◌≤◌}
-use native.Mathlib.Omega.{arith}
-use mathlib.Core.Path.{◌≡◌, subst}
-use lib.ListN.{get_or, set}
-use borrow.Author.Rules.{rules}
+use Prim.Native.Nat.{◌-◌, ◌≤◌}
+use mathlib.Core.Path.{◌≡◌}
+use lib.ListN.{get_or}
 use Rattle.instance.specs.Steps.{Filled}
-use Rattle.instance.proofs.Fill.{filled_none, filled_more, filled_all}
 use Rattle.instance.proofs.fill_durations.Given as goal
 
 -- `fill_durations` meets its contract.

@@ -1,10 +1,8 @@
-use Prim.Native.Nat.{◌-◌, ◌≤◌}
 use native.Mathlib.Omega.{arith}
 use mathlib.Core.Path.{◌≡◌, refl}
 use lib.ListN.{get_or}
 use Rattle.sets.specs.Sets.{most}
 use Rattle.instance.specs.Table.{preds_from}
-use Rattle.instance.specs.Steps.{Filled}
 use Rattle.instance.proofs.Fill.{filled_none, filled_more, filled_all}
 use Rattle.instance.proofs.fill_preds.Goals as goal
 

@@ -1,14 +1,7 @@
-use Prim.Native.Nat.{ℕ, ◌-◌, ◌*◌, ◌%◌, ◌≤◌}
+use Prim.Native.Nat.{◌*◌}
 use native.Mathlib.Omega.{arith}
-use mathlib.Core.Bool.{cond}
-use mathlib.Core.List.{List}
-use mathlib.Core.Path.{◌≡◌}
-use lib.Dec.{ltb}
-use lib.ListN.{get_or}
-use borrow.Author.Rules.{rules}
 use Rattle.plan.specs.Limits.{most_resources}
 use Rattle.instance.specs.Table.{units_from}
-use Rattle.instance.specs.Steps.{Filled}
 use Rattle.instance.proofs.Fill.{filled_none, filled_more, filled_all}
 use Rattle.instance.proofs.fill_units.Invariants.{Held}
 use Rattle.instance.proofs.fill_units.Goals as goal

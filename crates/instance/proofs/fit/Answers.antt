@@ -1,11 +1,9 @@
-use Prim.Native.Nat.{◌-◌, ◌≤◌, ◌<◌}
+use Prim.Native.Nat.{◌<◌}
 use native.Mathlib.Omega.{arith}
-use mathlib.Core.Bool.{true}
-use mathlib.Core.Path.{◌≡◌, sym, ◌∙◌}
+use mathlib.Core.Path.{sym, ◌∙◌}
 use borrow.Author.Tests.{not-true}
-use Rattle.base.specs.Below.{every_below}
 use Rattle.plan.specs.Limits.{most_resources}
-use Rattle.instance.proofs.Clashes.{fits_on, fit_none, fit_more, fit_no, fit_yes, fit_apart}
+use Rattle.instance.proofs.Clashes.{fit_none, fit_more, fit_no, fit_yes, fit_apart}
 use Rattle.instance.proofs.fit.Goals as goal
 
 pub overflow_add-i : goal.overflow_add-i

@@ -1,11 +1,8 @@
-use Prim.Native.Nat.{◌-◌, ◌≤◌, ◌<◌}
-use native.Mathlib.Omega.{arith}
+use Prim.Native.Nat.{◌-◌, ◌≤◌}
 use mathlib.Core.Bool.{true}
-use mathlib.Core.Path.{◌≡◌, sym, ◌∙◌}
-use borrow.Author.Tests.{not-true}
+use mathlib.Core.Path.{◌≡◌}
 use Rattle.base.specs.Below.{every_below}
-use Rattle.plan.specs.Limits.{most_resources}
-use Rattle.instance.proofs.Clashes.{fits_on, fit_none, fit_more, fit_no, fit_yes, fit_apart}
+use Rattle.instance.proofs.Clashes.{fits_on}
 use Rattle.instance.proofs.fit.Given as goal
 
 -- `fit` meets its contract.

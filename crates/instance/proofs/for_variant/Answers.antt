@@ -1,6 +1,5 @@
 use native.Mathlib.Omega.{arith}
 use mathlib.Core.Path.{◌∙◌}
-use borrow.Author.Rules.{rules}
 use Rattle.instance.proofs.Variants.{cells_long, blank, placed}
 use Rattle.instance.proofs.for_variant.Goals as goal
 

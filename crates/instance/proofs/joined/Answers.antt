@@ -2,7 +2,7 @@ use Prim.Native.Nat.{◌<◌}
 use native.Mathlib.Omega.{arith}
 use Rattle.sets.specs.Sets.{most}
 use Rattle.sets.proofs.Members.{lowest_below, after_less}
-use Rattle.instance.proofs.Merging.{Joining, joining_none, joining_more, joining_all}
+use Rattle.instance.proofs.Merging.{joining_none, joining_more, joining_all}
 use Rattle.instance.proofs.joined.Goals as goal
 
 pub loop-rest-init : goal.loop-rest-init

@@ -1,8 +1,4 @@
-use Prim.Native.Nat.{◌<◌}
-use native.Mathlib.Omega.{arith}
-use Rattle.sets.specs.Sets.{most}
-use Rattle.sets.proofs.Members.{lowest_below, after_less}
-use Rattle.instance.proofs.Merging.{Joining, joining_none, joining_more, joining_all}
+use Rattle.instance.proofs.Merging.{Joining}
 use Rattle.instance.proofs.joined.Given as goal
 
 -- `joined` meets its contract. The loop's invariant: the components of the members passed are joined.

@@ -1,4 +1,3 @@
-use borrow.Author.Rules.{rules}
 use Rattle.instance.proofs.Whole.{counted_two, alone, grouped, apart, laid_from}
 use Rattle.instance.proofs.laid.Goals as goal
 

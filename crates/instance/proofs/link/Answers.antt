@@ -6,7 +6,7 @@ use lib.ListN.{get_or}
 use Rattle.sets.specs.Sets.{most}
 use Rattle.sets.proofs.Members.{lowest_below, after_less}
 use Rattle.instance.specs.Table.{next_from}
-use Rattle.instance.proofs.Stores.{Storing, storing_none, storing_more, storing_all}
+use Rattle.instance.proofs.Stores.{storing_none, storing_more, storing_all}
 use Rattle.instance.proofs.Links.{linked_all}
 use Rattle.instance.proofs.link.Goals as goal
 

@@ -1,13 +1,7 @@
-use Prim.Native.Nat.{◌+◌, ◌^◌, ◌<◌}
-use native.Mathlib.Omega.{arith}
-use mathlib.Core.Path.{ap, ◌∙◌}
+use Prim.Native.Nat.{◌^◌}
 use lib.Bits.{bit_or}
-use lib.ListN.{get_or}
-use Rattle.sets.specs.Sets.{most}
-use Rattle.sets.proofs.Members.{lowest_below, after_less}
 use Rattle.instance.specs.Table.{next_from}
-use Rattle.instance.proofs.Stores.{Storing, storing_none, storing_more, storing_all}
-use Rattle.instance.proofs.Links.{linked_all}
+use Rattle.instance.proofs.Stores.{Storing}
 use Rattle.instance.proofs.link.Given as goal
 
 -- `link` meets its contract. The loop's invariant: with the members still to come linked too, the column is what it

@@ -1,9 +1,5 @@
-use Prim.Native.Nat.{◌+◌, ◌-◌, ◌≤◌}
-use native.Mathlib.Omega.{arith}
-use mathlib.Core.Path.{◌∙◌}
-use lib.ListN.{length-set}
-use Rattle.instance.specs.Table.{preds_from, near_from}
-use Rattle.instance.proofs.Links.{Linking, linking_none, linking_more, linking_all}
+use Prim.Native.Nat.{◌-◌, ◌≤◌}
+use Rattle.instance.proofs.Links.{Linking}
 use Rattle.instance.proofs.link_all.Given as goal
 
 -- `link_all` meets its contract. The loop's invariant: the activities passed are linked, the others not yet.

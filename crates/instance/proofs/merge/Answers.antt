@@ -4,7 +4,7 @@ use mathlib.Core.Path.{refl}
 use Rattle.sets.specs.Sets.{most}
 use Rattle.sets.proofs.Members.{lowest_below, after_less}
 use Rattle.instance.specs.Table.{component_from}
-use Rattle.instance.proofs.Stores.{Storing, storing_none, storing_more, storing_all}
+use Rattle.instance.proofs.Stores.{storing_none, storing_more, storing_all}
 use Rattle.instance.proofs.merge.Goals as goal
 
 pub loop-rest-init : goal.loop-rest-init

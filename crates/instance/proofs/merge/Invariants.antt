@@ -1,10 +1,5 @@
-use Prim.Native.Nat.{◌<◌}
-use native.Mathlib.Omega.{arith}
-use mathlib.Core.Path.{refl}
-use Rattle.sets.specs.Sets.{most}
-use Rattle.sets.proofs.Members.{lowest_below, after_less}
 use Rattle.instance.specs.Table.{component_from}
-use Rattle.instance.proofs.Stores.{Storing, storing_none, storing_more, storing_all}
+use Rattle.instance.proofs.Stores.{Storing}
 use Rattle.instance.proofs.merge.Given as goal
 
 -- `merge` meets its contract. The loop's invariant: with the members still to come stored too, the column is what it

@@ -1,10 +1,9 @@
-use Prim.Native.Nat.{◌-◌, ◌≤◌}
 use native.Mathlib.Omega.{arith}
 use mathlib.Core.Path.{sym, ◌∙◌}
 use lib.Dec.{ltb}
 use Rattle.instance.specs.Table.{acts_of, units_at}
 use Rattle.instance.proofs.Fill.{passing_all}
-use Rattle.instance.proofs.Merging.{Merging, merging_none, merging_more, merging_all}
+use Rattle.instance.proofs.Merging.{merging_none, merging_more, merging_all}
 use Rattle.instance.proofs.merge_all.Goals as goal
 
 pub loop-r-init : goal.loop-r-init

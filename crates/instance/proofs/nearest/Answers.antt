@@ -2,7 +2,7 @@ use Prim.Native.Nat.{◌<◌}
 use native.Mathlib.Omega.{arith}
 use Rattle.sets.specs.Sets.{most}
 use Rattle.sets.proofs.Members.{lowest_below, after_less}
-use Rattle.instance.proofs.Links.{Nearing, nearing_none, nearing_more}
+use Rattle.instance.proofs.Links.{nearing_none, nearing_more}
 use Rattle.instance.proofs.nearest.Goals as goal
 
 pub loop-rest-init : goal.loop-rest-init

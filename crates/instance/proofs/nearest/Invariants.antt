@@ -1,8 +1,4 @@
-use Prim.Native.Nat.{◌<◌}
-use native.Mathlib.Omega.{arith}
-use Rattle.sets.specs.Sets.{most}
-use Rattle.sets.proofs.Members.{lowest_below, after_less}
-use Rattle.instance.proofs.Links.{Nearing, nearing_none, nearing_more}
+use Rattle.instance.proofs.Links.{Nearing}
 use Rattle.instance.proofs.nearest.Given as goal
 
 -- `nearest` meets its contract. The loop's invariant: what is left of the set has the members that precede none of

@@ -1,9 +1,7 @@
 use Prim.Native.Nat.{◌-◌, ◌^◌, ◌≤◌}
-use native.Mathlib.Omega.{arith}
 use mathlib.Core.Path.{◌≡◌}
 use Rattle.instance.specs.Table.{component_from}
 use Rattle.instance.specs.Steps.{Filled}
-use Rattle.instance.proofs.Fill.{filled_none, filled_more, filled_all}
 use Rattle.instance.proofs.part.Given as goal
 
 -- `part` meets its contract.

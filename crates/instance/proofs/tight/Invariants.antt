@@ -1,12 +1,6 @@
 use Prim.Native.Nat.{◌-◌, ◌≤◌}
-use native.Mathlib.Omega.{arith}
-use mathlib.Core.Bool.{Bool}
-use mathlib.Core.Path.{ap, ◌∙◌}
 use Rattle.instance.specs.Instance.{own_of, is_tight}
-use Rattle.instance.specs.Table.{resources_of}
-use Rattle.instance.specs.Steps.{with_if, Passing}
-use Rattle.instance.proofs.Fill.{passing_none, passing_more, passing_all}
-use Rattle.instance.proofs.Clashes.{tight_is}
+use Rattle.instance.specs.Steps.{Passing}
 use Rattle.instance.proofs.tight.Given as goal
 
 -- `tight` meets its contract.

@@ -1,10 +1,8 @@
 use Prim.Native.Nat.{◌*◌, ◌-◌, ◌≤◌}
-use native.Mathlib.Omega.{arith}
-use mathlib.Core.Path.{◌≡◌, refl}
+use mathlib.Core.Path.{◌≡◌}
 use Rattle.sets.specs.Sets.{width}
 use Rattle.instance.specs.Table.{next_from}
 use Rattle.instance.specs.Steps.{Filled}
-use Rattle.instance.proofs.Fill.{filled_none, filled_more, filled_all}
 use Rattle.instance.proofs.unlink.Given as goal
 
 -- `unlink` meets its contract.

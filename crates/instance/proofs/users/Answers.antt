@@ -1,9 +1,9 @@
-use Prim.Native.Nat.{ℕ, ◌-◌, ◌≤◌}
+use Prim.Native.Nat.{ℕ}
 use native.Mathlib.Omega.{arith}
 use mathlib.Core.Path.{ap, ◌∙◌}
 use lib.Dec.{ltb}
 use Rattle.instance.specs.Table.{units_at}
-use Rattle.instance.specs.Steps.{with_if, Passing}
+use Rattle.instance.specs.Steps.{with_if}
 use Rattle.instance.proofs.Fill.{passing_none, passing_more, passing_all}
 use Rattle.instance.proofs.users.Goals as goal
 

@@ -1,10 +1,7 @@
-use Prim.Native.Nat.{ℕ, ◌-◌, ◌≤◌}
-use native.Mathlib.Omega.{arith}
-use mathlib.Core.Path.{ap, ◌∙◌}
+use Prim.Native.Nat.{◌-◌, ◌≤◌}
 use lib.Dec.{ltb}
 use Rattle.instance.specs.Table.{units_at}
-use Rattle.instance.specs.Steps.{with_if, Passing}
-use Rattle.instance.proofs.Fill.{passing_none, passing_more, passing_all}
+use Rattle.instance.specs.Steps.{Passing}
 use Rattle.instance.proofs.users.Given as goal
 
 -- `users` meets its contract.

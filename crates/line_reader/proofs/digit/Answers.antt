@@ -1,28 +1,27 @@
-use Prim.Native.Nat.{◌≤◌, ◌<◌}
 use mathlib.Core.Path.{◌≡◌, ◌∙◌}
 use native.Mathlib.Omega.{arith}
-use lib.ListN.{length, get_or}
+use lib.ListN.{get_or}
 use Rattle.line_reader.proofs.Values.{digit_room, digit_read, digit_none}
-use borrow.Author.Rules.{rules}
 use Rattle.line_reader.proofs.digit.Goals as goal
-use Rattle.line_reader.proofs.digit.Goals.{After-in_range, Then-in_range}
+use Rattle.line_reader.proofs.digit.Goals.{After-in_range}
 
 -- The byte that is tested is the one at the position.
 tested : (c : After-in_range) → c.wide-b.result ≡ get_or c.args.file.now c.args.n.at 0
 tested c = c.wide-b.ensures ∙ c.byte.ensures
 
-room : (c : Then-in_range)
-    → (c.args.n.at < length c.args.file.now) ×
-    (48 ≤ c.wide-b.result)
-room c =
-    digit_room c.args.file.now c.args.n.at (tested c.before) c.in_range.ensures
-    c.if-in_range.true
-
 pub overflow_add-result : goal.overflow_add-result
-overflow_add-result c = omega (arith, room (goal.at.overflow_add-result c).Then-in_range)
+overflow_add-result c = omega (
+  arith,
+  digit_room c.args.file.now c.args.n.at (tested (goal.at.overflow_add-result c).After-in_range) c.in_range.ensures
+      c.if-in_range.true,
+)
 
 pub overflow_sub-result : goal.overflow_sub-result
-overflow_sub-result c = omega (arith, room (goal.at.overflow_sub-result c).Then-in_range)
+overflow_sub-result c = omega (
+  arith,
+  digit_room c.args.file.now c.args.n.at (tested (goal.at.overflow_sub-result c).After-in_range) c.in_range.ensures
+      c.if-in_range.true,
+)
 
 pub returns-then-in_range : goal.returns-then-in_range
 returns-then-in_range c =

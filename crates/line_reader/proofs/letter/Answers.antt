@@ -2,7 +2,6 @@ use mathlib.Core.Path.{sym, ap, ◌∙◌}
 use native.Mathlib.Omega.{arith}
 use Rattle.plan.specs.Plan.{is_letter}
 use Rattle.line_reader.proofs.Forms.{letter_room, letter_matched, letter_lost}
-use borrow.Author.Rules.{rules}
 use Rattle.line_reader.proofs.letter.Goals as goal
 
 pub overflow_add-result : goal.overflow_add-result

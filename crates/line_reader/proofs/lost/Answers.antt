@@ -1,5 +1,4 @@
 use Rattle.line_reader.proofs.Forms.{seen_out}
-use borrow.Author.Rules.{rules}
 use Rattle.line_reader.proofs.lost.Goals as goal
 
 pub returns : goal.returns

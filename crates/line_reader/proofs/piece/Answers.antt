@@ -2,7 +2,6 @@ use Prim.Native.Nat.{ℕ}
 use mathlib.Core.List.{[], ◌∷◌}
 use mathlib.Core.Path.{sym, ap, ◌∙◌}
 use Rattle.line_reader.specs.Seen.{seen, advance}
-use borrow.Author.Rules.{rules}
 use Rattle.line_reader.proofs.piece.Goals as goal
 
 pub returns-then-b-eq35 : goal.returns-then-b-eq35

@@ -1,9 +1,6 @@
-use Prim.Native.Nat.{◌-◌, ◌^◌, ◌≤◌, ◌<◌}
-use mathlib.Core.Path.{◌≡◌}
 use native.Mathlib.Omega.{arith}
 use lib.Dec.{lit<}
-use Rattle.line_reader.specs.Seen.{digits_read}
-use Rattle.line_reader.proofs.Values.{walked, digits_read_is, total_room, digits_again, digits_done}
+use Rattle.line_reader.proofs.Values.{digits_read_is, total_room, digits_again, digits_done}
 use Rattle.line_reader.proofs.read_digits.Goals as goal
 
 pub loop-i-init : goal.loop-i-init

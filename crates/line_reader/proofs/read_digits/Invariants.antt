@@ -1,9 +1,7 @@
 use Prim.Native.Nat.{◌-◌, ◌^◌, ◌≤◌, ◌<◌}
 use mathlib.Core.Path.{◌≡◌}
-use native.Mathlib.Omega.{arith}
-use lib.Dec.{lit<}
 use Rattle.line_reader.specs.Seen.{digits_read}
-use Rattle.line_reader.proofs.Values.{walked, digits_read_is, total_room, digits_again, digits_done}
+use Rattle.line_reader.proofs.Values.{walked}
 use Rattle.line_reader.proofs.read_digits.Given as goal
 
 -- What is left to do gives all that is asked; the number so far has at most i digits.

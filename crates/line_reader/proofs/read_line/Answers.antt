@@ -1,8 +1,5 @@
-use Prim.Native.Nat.{◌-◌, ◌≤◌}
-use mathlib.Core.Path.{◌≡◌, refl, ◌∙◌}
+use mathlib.Core.Path.{refl, ◌∙◌}
 use native.Mathlib.Omega.{arith}
-use lib.ListN.{length, drop}
-use Rattle.line_reader.specs.Seen.{started, seen, advance}
 use Rattle.line_reader.proofs.Forms.{line_again, line_done}
 use Rattle.line_reader.proofs.read_line.Goals as goal
 

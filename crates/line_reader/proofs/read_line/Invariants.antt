@@ -1,9 +1,7 @@
 use Prim.Native.Nat.{◌-◌, ◌≤◌}
-use mathlib.Core.Path.{◌≡◌, refl, ◌∙◌}
-use native.Mathlib.Omega.{arith}
+use mathlib.Core.Path.{◌≡◌}
 use lib.ListN.{length, drop}
 use Rattle.line_reader.specs.Seen.{started, seen, advance}
-use Rattle.line_reader.proofs.Forms.{line_again, line_done}
 use Rattle.line_reader.proofs.read_line.Given as goal
 
 -- What is left of the form matches what the whole form matches.

@@ -2,7 +2,6 @@ use mathlib.Core.Path.{sym, ◌∙◌}
 use native.Mathlib.Omega.{arith}
 use Rattle.line_reader.proofs.Values.{digits_forward}
 use Rattle.line_reader.proofs.Forms.{value_matched, value_lost}
-use borrow.Author.Rules.{rules}
 use Rattle.line_reader.proofs.value.Goals as goal
 
 pub overflow_sub-size : goal.overflow_sub-size

@@ -1,6 +1,5 @@
 use mathlib.Core.Path.{sym, ◌∙◌}
 use Rattle.ranges.proofs.Units.{own_there, own_past}
-use borrow.Author.Rules.{rules}
 use Rattle.ranges.proofs.is_activity.Goals as goal
 
 pub returns-then-resource-resources : goal.returns-then-resource-resources

@@ -1,7 +1,6 @@
-use Prim.Native.Nat.{◌-◌}
 use mathlib.Core.Path.{sym}
 use native.Mathlib.Omega.{arith}
-use Rattle.ranges.proofs.Units.{WithinLeft, within_none, within_again, within_over, within_all_lem}
+use Rattle.ranges.proofs.Units.{within_none, within_again, within_over, within_all_lem}
 use Rattle.ranges.proofs.is_within.Goals as goal
 
 pub loop-i-init : goal.loop-i-init

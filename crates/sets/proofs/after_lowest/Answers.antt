@@ -1,5 +1,4 @@
 use mathlib.Core.Path.{refl}
-use borrow.Author.Rules.{rules}
 use Rattle.sets.specs.Lowest.{after_lowest}
 use Rattle.sets.proofs.after_lowest.Goals as goal
 

@@ -1,6 +1,5 @@
 use mathlib.Core.Path.{ap, ◌∙◌}
 use lib.Bits.{bit_xor}
-use borrow.Author.Rules.{rules}
 use Rattle.sets.proofs.Laws.{xor_single}
 use Rattle.sets.proofs.without.Goals as goal
 
