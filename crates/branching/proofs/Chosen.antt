@@ -71,7 +71,7 @@ module _ (p : Project) (comp : ℕ → ℕ) (sound : Sound p) (joint : Component
     (node : Node p F S)
     (T : Starts) (act : Active p T) (under : Under p comp F S T) where
   feasible : Feasible p T
-  feasible = act.is_feasible_lem
+  feasible = act.is_feasible
 
   room : (i : ℕ) → Open p F i → Room p F S i (T i)
   room i o =

@@ -40,7 +40,7 @@ root p S earlier f =
       closed =
           λ i j h g o. both h.there (ap not (earlier i j h (begun_has p j g) o (begun_fixed p j g)));
       begun = λ i h z. both h.there (ap not z);
-      is_active = record { is_feasible_lem = f; least = λ j g y t l m. true_not_false y (begun_fixed p j g) };
+      is_active = record { is_feasible = f; least = λ j g y t l m. true_not_false y (begun_fixed p j g) };
     }
 
 -- A leaf: every activity is frozen.
@@ -98,7 +98,7 @@ module _ (p : Project) (F : ℕ → Bool) (S : Starts) (node : Node p F S) where
           k
           fk
           (λ q. omega (arith, at_new k q, ap (p.gap i) q, room.ready i g (rw q at c)))
-          (λ ne gk. omega (arith, off_new k ne, node.is_active.is_feasible_lem.ordered i k g gk c))
+          (λ ne gk. omega (arith, off_new k ne, node.is_active.is_feasible.ordered i k g gk c))
 
       placed_fits : (u r : ℕ) → r < p.resources → load (among p (adding F j)) (moved S j t) u r ≤ p.capacity r
       placed_fits u r l =
@@ -115,8 +115,8 @@ module _ (p : Project) (F : ℕ → Bool) (S : Starts) (node : Node p F S) where
                 (λ i m ne y k.
                 let same : moved S j t i ≡ S i = off_new i ne in (sym (adding_other F j i ne) ∙ y, omega arith)),
           ))
-          (λ b. omega (arith, idle u r (λ x y. b y), node.is_active.is_feasible_lem.fits u r l)))
-          (λ a. omega (arith, idle u r (λ x y. a x), node.is_active.is_feasible_lem.fits u r l))
+          (λ b. omega (arith, idle u r (λ x y. b y), node.is_active.is_feasible.fits u r l)))
+          (λ a. omega (arith, idle u r (λ x y. a x), node.is_active.is_feasible.fits u r l))
         where
           idle : (u r : ℕ) → (t ≤ u → u < t + p.duration j → ⊥)
               → load (among p (adding F j)) (moved S j t) u r ≤ load (among p F) S u r
@@ -141,11 +141,11 @@ module _ (p : Project) (F : ℕ → Bool) (S : Starts) (node : Node p F S) where
             from_floor =
                 λ i f y.
                 by_added p F j i f (λ q. omega (arith, at_new i q, room.from_floor))
-                (λ ne g. omega (arith, off_new i ne, node.is_active.is_feasible_lem.from_floor i g y));
+                (λ ne g. omega (arith, off_new i ne, node.is_active.is_feasible.from_floor i g y));
             as_begun =
                 λ i f z.
                 by_added p F j i f (λ q. true_not_false (open_free j o) (sym (ap p.free q) ∙ z))
-                (λ ne g. off_new i ne ∙ node.is_active.is_feasible_lem.as_begun i g z);
+                (λ ne g. off_new i ne ∙ node.is_active.is_feasible.as_begun i g z);
             ordered = placed_ordered;
             fits = placed_fits;
           }
@@ -235,5 +235,5 @@ module _ (p : Project) (F : ℕ → Bool) (S : Starts) (node : Node p F S) where
             inside = child_inside;
             closed = child_closed;
             begun = λ i h z. adding_old F j i (node.begun i h z);
-            is_active = record { is_feasible_lem = placed_feasible e soon.room; least = child_least };
+            is_active = record { is_feasible = placed_feasible e soon.room; least = child_least };
           }

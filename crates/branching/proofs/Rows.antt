@@ -250,4 +250,4 @@ pub root_rows : (p : Project) (comp : ℕ → ℕ) (mark : ℕ) (S : Starts) (ro
     → Feasible (among p (begun_of p)) S → Rows p mark (Under p comp (begun_of p) S) rows → Perm rows (sessions p mark)
 root_rows p comp mark S rows sound f =
     rows_perm p mark (Under p comp (begun_of p) S) rows sound
-    (λ T act. root_under p comp S T f act.is_feasible_lem)
+    (λ T act. root_under p comp S T f act.is_feasible)

@@ -10,7 +10,7 @@ use Rattle.base.specs.Lists.{every, keep, gather, cells_of}
 use Rattle.base.specs.Order.{sorted}
 use Rattle.base.proofs.Bools.{and_left, and_right}
 use Rattle.plan.specs.Limits.{counts_form}
-use Rattle.format.specs.Parse.{parse, plan_lines, aLine, tested, the_lines, the_end, the_capacities}
+use Rattle.format.specs.Parse.{parse, plan_lines, a_line, tested, the_lines, the_end, the_capacities}
 use Rattle.format.specs.Lines
 use Rattle.format.specs.Lines.{matched, digits, is_value, decimal, filled}
 use Rattle.format.specs.Text.{text, capacity_lines, act_lines, node_lines}
@@ -72,7 +72,7 @@ test_holds (finds s cap v span count shortest starts) e = best_is s cap ∙ best
 test_holds (stops s cap r) e = best_is s cap ∙ best_same (best_model s cap) _ e
 
 all_pass : every test table ≡ true
-unfolding table read_by variants_by parse plan_lines aLine tested the_lines the_end the_capacities counts_form matched
+unfolding table read_by variants_by parse plan_lines a_line tested the_lines the_end the_capacities counts_form matched
     digits is_value decimal term_of forest place size firsts others activities member some_of count clash share write_of
     check_model judge twice repeats variants paired variant_count written variant_plan dissolved joined text capacity_lines
     act_lines node_lines filled Lines.numeral nodes is_marked placed in_order within_at_starts load latest_end earliest_start

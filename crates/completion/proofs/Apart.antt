@@ -47,7 +47,7 @@ module _ (p : Project) (F G : ℕ → Bool) (S T : Starts) (more : (k : ℕ) →
         fits =
             λ u r l from to.
             by_cases (ℕ_discrete (p.units i r) 0)
-            (λ none. omega (arith, none, node.is_active.is_feasible_lem.fits u r l))
+            (λ none. omega (arith, none, node.is_active.is_feasible.fits u r l))
             (λ some.
             omega (
               arith,

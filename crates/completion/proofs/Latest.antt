@@ -63,7 +63,7 @@ module _ (t : List ℕ) (given : Instance t) (F : ℕ → Bool) (S : Starts) (no
         one,
         ended k (frozen k y),
         ended m g,
-        node.is_active.is_feasible_lem.ordered k m
+        node.is_active.is_feasible.ordered k m
             (record { below = (inside k (frozen k y)).below; there = frozen k y })
             (record { below = (inside m g).below; there = g }) b.before,
         latest_of_lem w (preds_at t j) m b.below b.after,

@@ -15,8 +15,8 @@ use Rattle.plan.specs.Refusals.{number_of}
 use Rattle.plan.specs.declared.Refusal.{Refusal}
 use Rattle.plan.specs.declared.Refusal.TheVariants.{Form, Range, GroupOfOne, OverCapacity, Length}
 use Rattle.format.specs.Lines.{Fields, matched}
-use Rattle.format.specs.Parse.{LinesRead, read, stop, Reader, ◌>>=◌, return, aLine, tested, the_lines, the_end}
-use Rattle.format.specs.Parse.{number, aCount, the_capacities, an_activity, node_of_lem, is_ranged, is_plural, aNode}
+use Rattle.format.specs.Parse.{LinesRead, read, stop, Reader, ◌>>=◌, return, a_line, tested, the_lines, the_end}
+use Rattle.format.specs.Parse.{number, a_count, the_capacities, an_activity, node_from, is_ranged, is_plural, a_node}
 use Rattle.format.specs.Parse.{plan_lines, Result, holds, refuses, parse}
 use Rattle.format.proofs.Tests.{choose}
 use Rattle.format.proofs.Readers.{onward, judged}
@@ -38,8 +38,8 @@ of_early : (q r : Refusal) → IsEarly q → q ≡ r → IsEarly r
 of_early q r h e = ap (λ (x : Refusal). between 4 9 (number_of x)) (sym e) ∙ h
 
 module _ {A : Type 0} where
-  early_line : (form : List ℕ) (make : List ℕ → A) → StopsEarly (aLine form make)
-  unfolding aLine
+  early_line : (form : List ℕ) (make : List ℕ → A) → StopsEarly (a_line form make)
+  unfolding a_line
   early_line form make line s r e = go (matched form s) e
     where
       said : Option Fields → LinesRead A
@@ -83,17 +83,17 @@ early_lines (suc n) reader below =
     early_then (the_lines n reader) (λ rest. return (a ∷ rest)) (early_lines n reader below)
     (λ rest. early_return (a ∷ rest)))
 
-early_count : (form : List ℕ) (fits : ℕ → Bool) → StopsEarly (aCount form fits)
-early_count form fits = early_tested fits Range (aLine form number) (λ n. refl) (early_line form number)
+early_count : (form : List ℕ) (fits : ℕ → Bool) → StopsEarly (a_count form fits)
+early_count form fits = early_tested fits Range (a_line form number) (λ n. refl) (early_line form number)
 
 early_capacities : (edition resources : ℕ) → StopsEarly (the_capacities edition resources)
 unfolding the_capacities
 early_capacities edition resources = go (says_units edition)
   where
     go : (b : Bool)
-        → StopsEarly (choose b (the_lines resources (aCount capacity_form (is_capacity edition)))
+        → StopsEarly (choose b (the_lines resources (a_count capacity_form (is_capacity edition)))
         (return (replicate resources 1)))
-    go true = early_lines resources (aCount capacity_form (is_capacity edition)) (early_count capacity_form _)
+    go true = early_lines resources (a_count capacity_form (is_capacity edition)) (early_count capacity_form _)
     go false = early_return (replicate resources 1)
 
 early_end : StopsEarly the_end
@@ -103,16 +103,16 @@ early_end line (b ∷ s) r e = of_early (Form line) r refl (same_stop e)
 
 early_activity : (edition : ℕ) (capacities : List ℕ) → StopsEarly (an_activity edition capacities)
 early_activity edition capacities =
-    let line = aLine (act_form edition (length capacities)) (activity_of edition (length capacities)) in
+    let line = a_line (act_form edition (length capacities)) (activity_of edition (length capacities)) in
     let ranged = tested (is_activity edition (length capacities)) Range line in
     early_tested (λ a. is_within capacities a.units) OverCapacity ranged (λ n. refl)
     (early_tested (is_activity edition (length capacities)) Range line (λ n. refl)
     (early_line (act_form edition (length capacities)) (activity_of edition (length capacities))))
 
-early_node : (acts : ℕ) → StopsEarly (aNode acts)
+early_node : (acts : ℕ) → StopsEarly (a_node acts)
 early_node acts =
-    early_tested is_plural GroupOfOne (tested (is_ranged acts) Range (aLine node_form node_of_lem)) (λ n. refl)
-    (early_tested (is_ranged acts) Range (aLine node_form node_of_lem) (λ n. refl) (early_line node_form node_of_lem))
+    early_tested is_plural GroupOfOne (tested (is_ranged acts) Range (a_line node_form node_from)) (λ n. refl)
+    (early_tested (is_ranged acts) Range (a_line node_form node_from) (λ n. refl) (early_line node_form node_from))
 
 early_plan : StopsEarly plan_lines
 unfolding plan_lines
@@ -123,7 +123,7 @@ early_plan =
     early_then _ _ (early_count acts_form is_act_count) λ n.
     early_then _ _ (early_lines n (an_activity e bs) (early_activity e bs)) λ acts.
     early_then _ _ (early_count nodes_form is_node_count) λ m.
-    early_then _ _ (early_lines m (aNode n) (early_node n)) λ nodes.
+    early_then _ _ (early_lines m (a_node n) (early_node n)) λ nodes.
     early_then _ _ early_end λ u.
     early_return (record { edition = e; capacities = bs; activities = acts; nodes = nodes })
 

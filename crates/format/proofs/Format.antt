@@ -13,7 +13,7 @@ use Rattle.plan.specs.Limits.{edition_form, resources_form, acts_form, nodes_for
 use Rattle.plan.specs.Plan.{Activity, Plan, is_activity, is_within, is_plan}
 use Rattle.plan.specs.declared.Refusal.TheVariants.{Length}
 use Rattle.format.specs.Text.{text}
-use Rattle.format.specs.Parse.{LinesRead, read, stop, the_lines, the_end, aCount, the_capacities, an_activity, aNode}
+use Rattle.format.specs.Parse.{LinesRead, read, stop, the_lines, the_end, a_count, the_capacities, an_activity, a_node}
 use Rattle.format.specs.Parse.{plan_lines, Result, holds, refuses, parse}
 use Rattle.base.proofs.Bools.{by_bool, and_left, and_right, elim_true, elim_false}
 use Rattle.base.proofs.Every.{every_then, every_both}
@@ -59,13 +59,13 @@ text_of_lines : (s : List ℕ) (p : Plan) (line : ℕ) (rest : List ℕ) → pla
     → Sound p × (s ≡ text p)
 unfolding plan_lines text
 text_of_lines s p line rest e =
-    both_read _ (aCount edition_form is_edition 1 s) e λ e₀ l₁ s₁ h₁ k₁.
-    both_read _ (aCount resources_form is_resource_count l₁ s₁) k₁ λ r l₂ s₂ h₂ k₂.
+    both_read _ (a_count edition_form is_edition 1 s) e λ e₀ l₁ s₁ h₁ k₁.
+    both_read _ (a_count resources_form is_resource_count l₁ s₁) k₁ λ r l₂ s₂ h₂ k₂.
     both_read _ (the_capacities e₀ r l₂ s₂) k₂ λ bs l₃ s₃ h₃ k₃.
-    both_read _ (aCount acts_form is_act_count l₃ s₃) k₃ λ n l₄ s₄ h₄ k₄.
+    both_read _ (a_count acts_form is_act_count l₃ s₃) k₃ λ n l₄ s₄ h₄ k₄.
     both_read _ (the_lines n (an_activity e₀ bs) l₄ s₄) k₄ λ acts l₅ s₅ h₅ k₅.
-    both_read _ (aCount nodes_form is_node_count l₅ s₅) k₅ λ m l₆ s₆ h₆ k₆.
-    both_read _ (the_lines m (aNode n) l₆ s₆) k₆ λ nodes l₇ s₇ h₇ k₇.
+    both_read _ (a_count nodes_form is_node_count l₅ s₅) k₅ λ m l₆ s₆ h₆ k₆.
+    both_read _ (the_lines m (a_node n) l₆ s₆) k₆ λ nodes l₇ s₇ h₇ k₇.
     both_read _ (the_end l₇ s₇) k₇ λ u l₈ s₈ h₈ k₈.
     let w₁ = edition_line.wrote 1 s e₀ l₁ s₁ h₁ in
     let w₂ = resources_line.wrote l₁ s₁ r l₂ s₂ h₂ in

@@ -15,8 +15,8 @@ use Rattle.plan.proofs.Nodes.{node_number}
 use Rattle.base.specs.Lists.{every}
 use Rattle.format.specs.Lines.{filled, slots}
 use Rattle.format.specs.Text.{capacity_lines, act_lines, node_lines}
-use Rattle.format.specs.Parse.{Reader, read, aLine, tested, the_lines, number, aCount, the_capacities, an_activity}
-use Rattle.format.specs.Parse.{node_of_lem, is_ranged, is_plural, aNode}
+use Rattle.format.specs.Parse.{Reader, read, a_line, tested, the_lines, number, a_count, the_capacities, an_activity}
+use Rattle.format.specs.Parse.{node_from, is_ranged, is_plural, a_node}
 use Rattle.base.proofs.Bools.{by_bool, both, and_left, and_right, cond_true, cond_false, elim_true, elim_false}
 use Rattle.format.proofs.Tests.{between_facts}
 use Rattle.format.proofs.Plans.{ranged_most, node_same, letter_is, Letter, letter_cases, letter_same}
@@ -31,7 +31,7 @@ one_value (v ∷ []) e = refl
 one_value (v ∷ w ∷ vs) e = absurd (omega arith)
 
 abbrev pub Number : List ℕ → (ℕ → Bool) → Type 0
-Number form ok = Exact (aCount form ok) (λ n. filled form (n ∷ [])) (λ n. ok n ≡ true)
+Number form ok = Exact (a_count form ok) (λ n. filled form (n ∷ [])) (λ n. ok n ≡ true)
 
 number_line : (form : List ℕ) (ok : ℕ → Bool) → is_form form ≡ true → slots form ≡ 1
     → ((n : ℕ) → ok n ≡ true → fitting form (n ∷ []) ≡ true) → Number form ok
@@ -104,10 +104,10 @@ letter_first [] fit = absurd (false≢true fit)
 letter_first (v ∷ vs) fit = and_left _ _ fit
 
 ranged_line : (n : ℕ) → n ≤ most_acts
-    → Exact (tested (is_ranged n) Range (aLine node_form node_of_lem)) node_line (λ m. is_ranged n m ≡ true)
+    → Exact (tested (is_ranged n) Range (a_line node_form node_from)) node_line (λ m. is_ranged n m ≡ true)
 unfolding fitting
 ranged_line n h =
-    line_exact node_form node_of_lem (λ m. letter_of m ∷ value_of m ∷ []) (is_ranged n) refl
+    line_exact node_form node_from (λ m. letter_of m ∷ value_of m ∷ []) (is_ranged n) refl
     (λ m e. both (letter_is m) (both (short (value_of m) (omega (arith, ranged_most n m h e))) refl))
     (λ m e. node_same m)
     (λ vs fit e.
@@ -115,7 +115,7 @@ ranged_line n h =
     ap₂ (λ l v. l ∷ v ∷ []) (letter_same b (get_or vs 1 0)) (node_number (get_or vs 0 0) (get_or vs 1 0))
     ∙ two_values vs (fitting_count node_form vs fit))
 
-pub node_line_lem : (n : ℕ) → n ≤ most_acts → Exact (aNode n) node_line (λ m. is_node n m ≡ true)
+pub node_line_lem : (n : ℕ) → n ≤ most_acts → Exact (a_node n) node_line (λ m. is_node n m ≡ true)
 node_line_lem n h =
     tested_exact is_plural GroupOfOne (ranged_line n h) (λ m e. (node_ranged n m e, node_plural n m e)) (plural_node n)
 
@@ -200,5 +200,5 @@ act_lines_lem edition capacities n h =
     lines_exact (is_held edition capacities) (act_line_lem edition capacities h) (act_joined edition (length capacities)) n
 
 pub node_lines_lem : (n m : ℕ) → n ≤ most_acts
-    → Exact (the_lines m (aNode n)) node_lines (Count (is_node n) m)
+    → Exact (the_lines m (a_node n)) node_lines (Count (is_node n) m)
 node_lines_lem n m h = lines_exact (is_node n) (node_line_lem n h) node_joined m

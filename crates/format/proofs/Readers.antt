@@ -10,7 +10,7 @@ use Rattle.base.specs.Lists.{every}
 use Rattle.plan.specs.declared.Refusal.{Refusal}
 use Rattle.plan.specs.declared.Refusal.TheVariants.{Form, Range}
 use Rattle.format.specs.Lines.{Fields, matched, filled}
-use Rattle.format.specs.Parse.{LinesRead, read, stop, Reader, aLine, tested, the_lines}
+use Rattle.format.specs.Parse.{LinesRead, read, stop, Reader, a_line, tested, the_lines}
 use Rattle.base.proofs.Bools.{by_bool, both, and_left, and_right, elim_true, elim_false}
 use Rattle.format.proofs.Tests.{choose}
 use Rattle.format.proofs.Forms.{is_form, fitting, matched_filled, Filled, filled_matched}
@@ -94,8 +94,8 @@ module _ {A : Type 0} (form : List ℕ) (make : List ℕ → A) (values : A → 
     answered line o =
         elim o [ none ↦ stop (Form line) | some f ↦ read (make f.values) (line + 1) f.rest ]
 
-    answer : (line : ℕ) (s : List ℕ) → aLine form make line s ≡ answered line (matched form s)
-    unfolding aLine
+    answer : (line : ℕ) (s : List ℕ) → a_line form make line s ≡ answered line (matched form s)
+    unfolding a_line
     answer line s = refl
 
     says : (line : ℕ) (s : List ℕ) (a : A) (line' : ℕ) (s' : List ℕ) (o : Option Fields) → matched form s ≡ o
@@ -109,7 +109,7 @@ module _ {A : Type 0} (form : List ℕ) (make : List ℕ → A) (values : A → 
         let ev : f.values ≡ values a = sym (back f.values m.fits (ap ok ea ∙ pass)) ∙ ap values ea in
         m.bytes ∙ ap₂ (λ vs t. filled form vs ++ t) ev es
 
-    pub line_exact : Exact (tested ok Range (aLine form make)) (λ a. filled form (values a)) (λ a. ok a ≡ true)
+    pub line_exact : Exact (tested ok Range (a_line form make)) (λ a. filled form (values a)) (λ a. ok a ≡ true)
     unfolding tested
     line_exact =
         record {
@@ -123,7 +123,7 @@ module _ {A : Type 0} (form : List ℕ) (make : List ℕ → A) (values : A → 
               );
           wrote =
               λ line s a line' s' e.
-              passed ok Range line (aLine form make line s) a line' s' e
+              passed ok Range line (a_line form make line s) a line' s' e
               (λ here pass.
               (pass, says line s a line' s' (matched form s) refl (sym (answer line s) ∙ here) pass));
         }

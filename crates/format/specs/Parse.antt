@@ -26,8 +26,8 @@ abbrev pub return : {A : Type 0} → A → Reader A
 return a line s = read a line s
 
 -- One line: `make` is what its values say.
-unfoldable pub aLine : {A : Type 0} → List ℕ → (List ℕ → A) → Reader A
-aLine form make line s =
+unfoldable pub a_line : {A : Type 0} → List ℕ → (List ℕ → A) → Reader A
+a_line form make line s =
     elim (matched form s) [ none ↦ stop (Form line) | some f ↦ read (make f.values) (line + 1) f.rest ]
 
 -- A test of what a line says, and the refusal of a line that does not pass it.
@@ -54,14 +54,14 @@ the_end line (b ∷ s) = stop (Form line)
 abbrev pub number : List ℕ → ℕ
 number vs = get_or vs 0 0
 
-abbrev pub aCount : List ℕ → (ℕ → Bool) → Reader ℕ
-aCount form fits = tested fits Range (aLine form number)
+abbrev pub a_count : List ℕ → (ℕ → Bool) → Reader ℕ
+a_count form fits = tested fits Range (a_line form number)
 
 -- The capacities of so many resources.
 unfoldable pub the_capacities : ℕ → ℕ → Reader (List ℕ)
 the_capacities edition resources =
     elim (says_units edition) [
-      | true ↦ the_lines resources (aCount capacity_form (is_capacity edition))
+      | true ↦ the_lines resources (a_count capacity_form (is_capacity edition))
       | false ↦ return (replicate resources 1)
     ]
 
@@ -71,10 +71,10 @@ an_activity edition capacities =
     let resources : ℕ = length capacities in
     tested (λ a. is_within capacities a.units) OverCapacity
     (tested (is_activity edition resources) Range
-    (aLine (act_form edition resources) (activity_of edition resources)))
+    (a_line (act_form edition resources) (activity_of edition resources)))
 
-abbrev pub node_of_lem : List ℕ → Node
-node_of_lem vs = node_of (get_or vs 0 0) (get_or vs 1 0)
+abbrev pub node_from : List ℕ → Node
+node_from vs = node_of (get_or vs 0 0) (get_or vs 1 0)
 
 -- A group of one passes the test of its range, and then has its own refusal.
 abbrev pub is_ranged : ℕ → Node → Bool
@@ -83,18 +83,18 @@ is_ranged acts n = is_node acts n || is_group_of_one n
 abbrev pub is_plural : Node → Bool
 is_plural n = not (is_group_of_one n)
 
-abbrev pub aNode : ℕ → Reader Node
-aNode acts = tested is_plural GroupOfOne (tested (is_ranged acts) Range (aLine node_form node_of_lem))
+abbrev pub a_node : ℕ → Reader Node
+a_node acts = tested is_plural GroupOfOne (tested (is_ranged acts) Range (a_line node_form node_from))
 
 unfoldable pub plan_lines : Reader Plan
 plan_lines = do
-  e ← aCount edition_form is_edition
-  r ← aCount resources_form is_resource_count
+  e ← a_count edition_form is_edition
+  r ← a_count resources_form is_resource_count
   bs ← the_capacities e r
-  n ← aCount acts_form is_act_count
+  n ← a_count acts_form is_act_count
   acts ← the_lines n (an_activity e bs)
-  m ← aCount nodes_form is_node_count
-  nodes ← the_lines m (aNode n)
+  m ← a_count nodes_form is_node_count
+  nodes ← the_lines m (a_node n)
   u ← the_end
   return (record { edition = e; capacities = bs; activities = acts; nodes = nodes })
 

@@ -69,7 +69,7 @@ pub record Instance (t : List ℕ) : Type 0 where
   pub cap : cap_of t < word_values
   pub variant : variant_of t < word_values
 
--- What the table is laid out from: row i of the units begins at mostResources * i.
+-- What the table is laid out from: row i of the units begins at most_resources * i.
 pub record Given (acts resources : ℕ) (duration units capacity : List ℕ) : Type 0 where
   pub acts_few : acts ≤ most
   pub resources_few : resources ≤ most_resources

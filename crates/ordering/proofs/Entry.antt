@@ -74,7 +74,7 @@ module _ (t : List ℕ) (given : Instance t) (l : Line) (w : List ℕ) (c latest
           timed = position.sets.timed;
           low = position.sets.left_low;
           inside = λ i f. has_is t given i (stands.inside i (stands.within i f));
-          is_left_lem = shows.left;
+          is_left = shows.left;
           ended = ended;
           idle = position.idle;
           last =

@@ -78,14 +78,14 @@ max_with n f g j l none same =
 module _ (t : List ℕ) (given : Instance t) {left free latest : ℕ} {w : List ℕ} {F : ℕ → Bool} {S : Starts}
     (lone : Lone t left free latest w F S) where
   left_present : (i : ℕ) → has left i ≡ true → has (present_of t) i ≡ true
-  left_present i y = and_left (has (present_of t) i) (not (F i)) (sym (lone.is_left_lem i) ∙ y)
+  left_present i y = and_left (has (present_of t) i) (not (F i)) (sym (lone.is_left i) ∙ y)
 
   left_waits : (i : ℕ) → has left i ≡ true → F i ≡ false
   left_waits i y =
-      not-true (F i) (and_right (has (present_of t) i) (not (F i)) (sym (lone.is_left_lem i) ∙ y))
+      not-true (F i) (and_right (has (present_of t) i) (not (F i)) (sym (lone.is_left i) ∙ y))
 
   pub left_of : (i : ℕ) → Has (project_in t) i → F i ≡ false → has left i ≡ true
-  left_of i h z = lone.is_left_lem i ∙ both (has_is t given i h) (ap not z)
+  left_of i h z = lone.is_left i ∙ both (has_is t given i h) (ap not z)
 
   left_has : (i : ℕ) → has left i ≡ true → Has (project_in t) i
   left_has i y = has_of t given i (left_present i y)
@@ -292,7 +292,7 @@ module _ (t : List ℕ) (given : Instance t) {left free latest : ℕ} {w : List 
             (ap (λ (b : Bool). has (present_of t) i && not b) (ap G e ∙ adding_new F j)
             ∙ and-false (has (present_of t) i)))
             (λ ne.
-            turn.others i ne ∙ lone.is_left_lem i
+            turn.others i ne ∙ lone.is_left i
             ∙ ap (λ (b : Bool). has (present_of t) i && not b) (sym (adding_other F j i ne)))
 
         after_with : (i k : ℕ) → has fewer i ≡ true → G k ≡ true → own_of t k ≡ own_of t i
@@ -316,7 +316,7 @@ module _ (t : List ℕ) (given : Instance t) {left free latest : ℕ} {w : List 
               timed = timed_store w j stop j_below stop_early lone.timed;
               low = turn.low;
               inside = inside_with;
-              is_left_lem = left_with;
+              is_left = left_with;
               ended = ended_with;
               idle =
                   λ i l z.
@@ -365,7 +365,7 @@ module _ {t : List ℕ} {left free latest : ℕ} {w w' : List ℕ} {F : ℕ → 
   frozen_same : (i : ℕ) → F i ≡ true → end_at w' i ≡ end_at w i
   frozen_same i f =
       end_same i
-      (lone.is_left_lem i ∙ ap (λ (b : Bool). has (present_of t) i && not b) f ∙ and-false (has (present_of t) i))
+      (lone.is_left i ∙ ap (λ (b : Bool). has (present_of t) i && not b) f ∙ and-false (has (present_of t) i))
 
   from : (i : ℕ) → from_at w' free i ≡ from_at w free i
   from = from_same alone free
@@ -377,11 +377,11 @@ module _ {t : List ℕ} {left free latest : ℕ} {w w' : List ℕ} {F : ℕ → 
         timed = alone.timed;
         low = lone.low;
         inside = lone.inside;
-        is_left_lem = lone.is_left_lem;
+        is_left = lone.is_left;
         ended = λ i f. lone.ended i f ∙ sym (frozen_same i f);
         idle =
             λ i l z.
-            end_same i (lone.is_left_lem i ∙ ap (λ (b : Bool). b && not (F i)) z) ∙ lone.idle i l z;
+            end_same i (lone.is_left i ∙ ap (λ (b : Bool). b && not (F i)) z) ∙ lone.idle i l z;
         last =
             lone.last
             ∙ max_eq most (λ i. cond (F i) (end_at w i) 0) (λ i. cond (F i) (end_at w' i) 0)

@@ -24,7 +24,7 @@ pub record Lone (t : List ℕ) (left free latest : ℕ) (w : List ℕ) (F : ℕ 
   pub timed : Timed w
   pub low : left < 2 ^ most
   pub inside : (i : ℕ) → F i ≡ true → has (present_of t) i ≡ true
-  pub is_left_lem : (i : ℕ) → has left i ≡ (has (present_of t) i && not (F i))
+  pub is_left : (i : ℕ) → has left i ≡ (has (present_of t) i && not (F i))
   pub ended : (i : ℕ) → F i ≡ true → S i + duration_at t i ≡ end_at w i
   pub idle : (i : ℕ) → i < most → has (present_of t) i ≡ false → end_at w i ≡ 0
   pub last : latest ≡ max_below most λ i. cond (F i) (end_at w i) 0

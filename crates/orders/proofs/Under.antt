@@ -107,7 +107,7 @@ module _ (t w : List ℕ) (whole : Instance t) (ended : Ended t w) (order : ℕ 
   unfolding project_in
   active_soonest a j y =
       let S : Starts = starts_in t w in
-      let f : Feasible q S = a.is_feasible_lem in
+      let f : Feasible q S = a.is_feasible in
       let low : j < most = present_below t j whole y in
       let end : S j + duration_at t j ≡ end_at w j = end_of_lem t w whole ended j y in
       let before : (i : ℕ) → has (order j) i ≡ true → end_at w i ≤ S j =
@@ -144,9 +144,9 @@ module _ (t w : List ℕ) (whole : Instance t) (ended : Ended t w) (order : ℕ 
   unfolding project_in
   soonest_active a each =
       let S : Starts = starts_in t w in
-      let f : Feasible (project_in t) S = a.is_feasible_lem in
+      let f : Feasible (project_in t) S = a.is_feasible in
       record {
-        is_feasible_lem =
+        is_feasible =
             feasible_under (project_in t) order S f
             (λ i j hi hj o.
             ⊎_elim

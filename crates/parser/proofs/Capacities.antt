@@ -9,7 +9,7 @@ use lib.ListN.{length, take, drop, replicate}
 use Rattle.base.proofs.Bools.{elim_true, elim_false}
 use Rattle.base.proofs.Lists.{take_replicate}
 use Rattle.plan.specs.Limits.{between, says_units, most_units, is_capacity, capacity_form}
-use Rattle.format.specs.Parse.{LinesRead, read, Reader, the_lines, aCount, the_capacities}
+use Rattle.format.specs.Parse.{LinesRead, read, Reader, the_lines, a_count, the_capacities}
 use Rattle.line_reader.proofs.Cases.{by_dec}
 use Rattle.parser.specs.declared.Cursor.{Cursor}
 use Rattle.parser.specs.Steps.{resumed, Reads}
@@ -17,13 +17,13 @@ use Rattle.parser.proofs.Cursors.{outcome_in, outcome_out}
 
 module _ {s : List ℕ} {before : Cursor} (edition n : ℕ) where
   pub capacities_read : {after : Cursor} {bs : List ℕ} → says_units edition ≡ true
-      → Reads s before (the_lines n (aCount capacity_form (is_capacity 2))) n after bs
+      → Reads s before (the_lines n (a_count capacity_form (is_capacity 2))) n after bs
       → Reads s before (the_capacities edition n) n after bs
   unfolding the_capacities
   capacities_read {after} {bs} says r =
       subst (λ (reader : Reader (List ℕ)). Reads s before reader n after bs)
       (sym (elim_true _ _ _ says
-      ∙ ap (λ (b : Bool). the_lines n (aCount capacity_form (between 1 (cond b (most_units 2) (most_units 1))))) says))
+      ∙ ap (λ (b : Bool). the_lines n (a_count capacity_form (between 1 (cond b (most_units 2) (most_units 1))))) says))
       r
 
   pub capacities_one : (m : ℕ) → n ≤ m → says_units edition ≡ false

@@ -13,7 +13,7 @@ use borrow.Author.Tests.{le-leb, lt-leb}
 use Rattle.plan.specs.declared.Refusal.{Refusal}
 use Rattle.plan.specs.declared.Refusal.TheVariants.{Form}
 use Rattle.format.specs.Lines.{Fields, matched}
-use Rattle.format.specs.Parse.{LinesRead, read, stop, Reader, aLine, tested, the_end}
+use Rattle.format.specs.Parse.{LinesRead, read, stop, Reader, a_line, tested, the_end}
 use Rattle.base.proofs.Bools.{elim_true, elim_false}
 use Rattle.line_reader.specs.declared.Line.{Line}
 use Rattle.parser.specs.declared.Cursor.{Cursor}
@@ -56,8 +56,8 @@ module _ {A : Type 0} (make : List ℕ → A) (line : ℕ) where
   abbrev said : Option Fields → LinesRead A
   said o = elim o [ none ↦ stop (Form line) | some f ↦ read (make f.values) (line + 1) f.rest ]
 
-  line_says : (form s : List ℕ) → aLine form make line s ≡ said (matched form s)
-  unfolding aLine
+  line_says : (form s : List ℕ) → a_line form make line s ≡ said (matched form s)
+  unfolding a_line
   line_says form s = refl
 
 -- A line that is matched and taken is the line of its form, and says what its values make.
@@ -76,10 +76,10 @@ module _ {A : Type 0} {s form : List ℕ} {before after : Cursor} {l : Line} {vs
       ap (taking (read u line t)) (seen_out s l (omega arith))
       ∙ sym (ap (said make line) (to_out s vs l.next (omega arith))))
 
-  pub line_reads : Reads s before (aLine form make) 1 after (make vs)
+  pub line_reads : Reads s before (a_line form make) 1 after (make vs)
   unfolding resumed line_taken
   line_reads =
-      let reader : Reader A = aLine form make in
+      let reader : Reader A = a_line form make in
       let start : outcome s after (make vs) ≡ taking (outcome s before u) (seen s l) =
       outcome_map s after (λ (v : Unit {0}). make vs) u ∙ ap (mapped (λ _. make vs)) taken.outcome_is in
       record {

@@ -4,7 +4,7 @@ use mathlib.Core.Bool.{Bool, true}
 use mathlib.Core.List.{List}
 use mathlib.Core.Path.{◌≡◌}
 use Rattle.plan.specs.declared.Refusal.TheVariants.{Range}
-use Rattle.format.specs.Parse.{aLine, tested}
+use Rattle.format.specs.Parse.{a_line, tested}
 use Rattle.line_reader.specs.declared.Line.{Line}
 use Rattle.parser.specs.declared.Cursor.{Cursor}
 use Rattle.parser.specs.Steps.{Matches, TakesLine, TestsLine, Reads}
@@ -14,6 +14,6 @@ module _ {s form vs : List ℕ} {before taken after : Cursor} {l : Line} {ok : B
   pub ranged_reads : Matches s form before.at l.next vs → TakesLine s before l taken
       → TestsLine s taken ok (Range before.line) after → (make : List ℕ → A) (fits : A → Bool)
       → ok ≡ fits (make vs) → (ok ≡ true → make vs ≡ a)
-      → Reads s before (tested fits Range (aLine form make)) 1 after a
+      → Reads s before (tested fits Range (a_line form make)) 1 after a
   ranged_reads matches takes tests make fits same kept =
       test_reads (line_reads make matches takes) fits Range tests same kept

@@ -13,8 +13,8 @@ use Rattle.plan.specs.Limits.{resources_form, acts_form, nodes_form}
 use Rattle.plan.specs.Plan.{Activity, Node, Plan, plan_of}
 use Rattle.plan.specs.declared.Tables.{Tables}
 use Rattle.plan.specs.declared.Refusal.TheVariants.{Length}
-use Rattle.format.specs.Parse.{LinesRead, read, stop, Reader, ◌>>=◌, return, the_lines, the_end, aCount, the_capacities}
-use Rattle.format.specs.Parse.{an_activity, aNode, plan_lines, Result, holds, refuses, parse}
+use Rattle.format.specs.Parse.{LinesRead, read, stop, Reader, ◌>>=◌, return, the_lines, the_end, a_count, the_capacities}
+use Rattle.format.specs.Parse.{an_activity, a_node, plan_lines, Result, holds, refuses, parse}
 use Rattle.parser.specs.declared.Parsed.{Parsed}
 use Rattle.parser.specs.declared.Cursor.{Cursor}
 use Rattle.parser.specs.declared.Verdict.{Verdict}
@@ -77,13 +77,13 @@ answered s c v t e =
 module _ {s : List ℕ} {s₀ s₁ s₂ s₃ s₄ s₅ s₆ s₇ s₈ : Cursor} {e r n m : ℕ} {bs : List ℕ} {acts : List Activity}
     {nodes : List Node}
     (start : s₀ ≡ first_line)
-    (edition : Reads s s₀ (aCount edition_form (between 1 last_edition)) 1 s₁ e)
-    (resources : Reads s s₁ (aCount resources_form (between 1 most_resources)) 1 s₂ r)
+    (edition : Reads s s₀ (a_count edition_form (between 1 last_edition)) 1 s₁ e)
+    (resources : Reads s s₁ (a_count resources_form (between 1 most_resources)) 1 s₂ r)
     (capacities : Reads s s₂ (the_capacities e r) r s₃ bs)
-    (act_count : Reads s s₃ (aCount acts_form (between 1 most_acts)) 1 s₄ n)
+    (act_count : Reads s s₃ (a_count acts_form (between 1 most_acts)) 1 s₄ n)
     (activities : Reads s s₄ (the_lines n (an_activity e bs)) n s₅ acts)
-    (node_count_lem : Reads s s₅ (aCount nodes_form (between 1 most_nodes)) 1 s₆ m)
-    (tree : Reads s s₆ (the_lines m (aNode n)) m s₇ nodes)
+    (node_count_lem : Reads s s₅ (a_count nodes_form (between 1 most_nodes)) 1 s₆ m)
+    (tree : Reads s s₆ (the_lines m (a_node n)) m s₇ nodes)
     (end : Reads s s₇ the_end 0 s₈ (tt {0})) where
   abbrev whole : Plan
   whole = record { edition = e; capacities = bs; activities = acts; nodes = nodes }
@@ -93,13 +93,13 @@ module _ {s : List ℕ} {s₀ s₁ s₂ s₃ s₄ s₅ s₆ s₇ s₈ : Cursor} 
   plan_lines_lem =
       ap (λ (o : LinesRead (Unit {0})). bound o (λ u. plan_lines)) (sym (outcome_in s first_line tt (omega arith)))
       ∙ ap (λ (c : Cursor). bound (outcome s c tt) (λ u. plan_lines)) (sym start)
-      ∙ step (tt {0}) (λ _. aCount edition_form (between 1 last_edition)) _ edition
-      ∙ step e (λ _. aCount resources_form (between 1 most_resources)) _ resources
+      ∙ step (tt {0}) (λ _. a_count edition_form (between 1 last_edition)) _ edition
+      ∙ step e (λ _. a_count resources_form (between 1 most_resources)) _ resources
       ∙ step r (the_capacities e) _ capacities
-      ∙ step bs (λ _. aCount acts_form (between 1 most_acts)) _ act_count
+      ∙ step bs (λ _. a_count acts_form (between 1 most_acts)) _ act_count
       ∙ step n (λ k. the_lines k (an_activity e bs)) _ activities
-      ∙ step acts (λ _. aCount nodes_form (between 1 most_nodes)) _ node_count_lem
-      ∙ step m (λ k. the_lines k (aNode n)) _ tree
+      ∙ step acts (λ _. a_count nodes_form (between 1 most_nodes)) _ node_count_lem
+      ∙ step m (λ k. the_lines k (a_node n)) _ tree
       ∙ step nodes (λ _. the_end) _ end
       ∙ returned s s₈ (tt {0}) whole
 

@@ -7,7 +7,7 @@ use Rattle.plan.specs.Plan.{Activity, Node, activity_of, is_activity}
 use Rattle.plan.specs.declared.Refusal.{Refusal}
 use Rattle.plan.specs.declared.Refusal.TheVariants.{Form, Range}
 use Rattle.format.specs.Lines.{Fields, matched}
-use Rattle.format.specs.Parse.{LinesRead, read, stop, Reader, aLine, tested, aCount, node_of_lem, is_ranged}
+use Rattle.format.specs.Parse.{LinesRead, read, stop, Reader, a_line, tested, a_count, node_from, is_ranged}
 use Rattle.line_reader.specs.Seen.{Seen, seen}
 use Rattle.line_reader.specs.declared.Line.{Line}
 use Rattle.parser.specs.declared.Cursor.{Cursor}
@@ -18,10 +18,10 @@ use Rattle.parser.specs.declared.ActivityLine.{ActivityLine}
 -- An activity and a node, by the test of their ranges alone.
 abbrev pub ranged_activity : ℕ → ℕ → Reader Activity
 ranged_activity edition resources =
-    tested (is_activity edition resources) Range (aLine (act_form edition resources) (activity_of edition resources))
+    tested (is_activity edition resources) Range (a_line (act_form edition resources) (activity_of edition resources))
 
 abbrev pub ranged_node : ℕ → Reader Node
-ranged_node acts = tested (is_ranged acts) Range (aLine node_form node_of_lem)
+ranged_node acts = tested (is_ranged acts) Range (a_line node_form node_from)
 
 abbrev pub first_line : Cursor
 first_line = record { at = 0; line = 1; refusal = Form 1 }
@@ -67,7 +67,7 @@ pub record Reads {A : Type 0} (s : List ℕ) (before : Cursor) (reader : Reader 
   pub line : after.line ≤ before.line + lines
 
 pub record ReadsCount (s : List ℕ) (before : Cursor) (form : List ℕ) (low high : ℕ) (r : CountLine) : Type 0 where
-  pub reads : Reads s before (aCount form (between low high)) 1 r.cursor r.value
+  pub reads : Reads s before (a_count form (between low high)) 1 r.cursor r.value
   pub most : r.value ≤ high
 
 -- A form is matched from one position to another, with the values vs.

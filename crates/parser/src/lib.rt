@@ -8,7 +8,7 @@ ghost use Rattle.plan.specs.Limits.{longest, says_units, most_resources, most_ac
 ghost use Rattle.plan.specs.Limits.{capacity_form};
 ghost use Rattle.plan.specs.Plan.{node_of, activities_in, nodes_of};
 ghost use Rattle.format.specs.Lines.{slots};
-ghost use Rattle.format.specs.Parse.{the_lines, the_end, aCount, the_capacities, an_activity, aNode};
+ghost use Rattle.format.specs.Parse.{the_lines, the_end, a_count, the_capacities, an_activity, a_node};
 ghost use Rattle.parser.specs.Answer.{Answers, verdict_of};
 ghost use Rattle.parser.specs.Steps.{ranged_activity, ranged_node, first_line, outcome, Stops, TakesLine};
 ghost use Rattle.parser.specs.Steps.{TestsLine, Reads, ReadsCount, ReadsUnits, ReadsActivity};
@@ -175,7 +175,7 @@ fn read_count(file: &[u8], cursor: Cursor, form: &[u8], low: u32, high: u32) -> 
 
 fn capacity_lines(file: &[u8], cursor: Cursor, resources: usize) -> CapacityTable
     requires { (cursor.line < 100) × (resources ≤ most_resources) }
-    ensures { Reads file.now cursor (the_lines resources (aCount capacity_form (is_capacity 2))) resources
+    ensures { Reads file.now cursor (the_lines resources (a_count capacity_form (is_capacity 2))) resources
         result.cursor (take resources result.capacity) }
 {
     let mut last = cursor;
@@ -418,7 +418,7 @@ fn read_ranged(file: &[u8], cursor: Cursor, acts: u32) -> NodeLine
 
 fn read_node(file: &[u8], cursor: Cursor, acts: u32) -> NodeLine
     requires { (cursor.line < 1000) × (acts ≤ most_acts) }
-    ensures { Reads file.now cursor (aNode acts) 1 result.cursor (node_of result.letter result.number) }
+    ensures { Reads file.now cursor (a_node acts) 1 result.cursor (node_of result.letter result.number) }
 {
     let node = read_ranged(file, cursor, acts);
     let letter = node.letter;
@@ -434,7 +434,7 @@ fn read_node(file: &[u8], cursor: Cursor, acts: u32) -> NodeLine
 
 fn read_nodes(file: &[u8], cursor: Cursor, acts: u32, nodes: usize) -> NodeTable
     requires { (cursor.line < 100) × (acts ≤ most_acts) × (nodes ≤ most_nodes) }
-    ensures { Reads file.now cursor (the_lines nodes (aNode acts)) nodes result.cursor
+    ensures { Reads file.now cursor (the_lines nodes (a_node acts)) nodes result.cursor
         (nodes_of (take nodes result.letter) (take nodes result.number)) }
 {
     let mut last = cursor;

@@ -127,7 +127,7 @@ module _ (p : Plan) (t : Term) (v : ℕ) (c : HasVariant p t v) (ss : List ℕ)
       (λ y. rw (y, there i y))
       (λ z. rw (z, away i l z))))
       (feasible_of P (starts_of (timetable_of p ss))
-      (Feasible-agree P (starts_of ss) (starts_of (timetable_of p ss)) agrees is.is_active.is_feasible_lem))
+      (Feasible-agree P (starts_of ss) (starts_of (timetable_of p ss)) agrees is.is_active.is_feasible))
 
 -- CHECK says yes to every row of the pairs.
 pub pair_checks : (p : Plan) (t : Term) → Valid p t → (v : ℕ) (ss : List ℕ) → Memᴰ (v ∷ ss) (pairs p t)

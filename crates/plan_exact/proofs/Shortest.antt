@@ -121,12 +121,12 @@ module _ (p : Plan) (t : Term) (valid : Valid p t) where
 
     -- It is between its variant's chains and loads and the sum of its durations.
     pub first_chains : (i : ℕ) (js : List ℕ) → Chain P i js → chain_length P i js ≤ makespan P (starts_of ss)
-    first_chains i js chain = chain_bound P (starts_of ss) first_active.is_feasible_lem i js chain
+    first_chains i js chain = chain_bound P (starts_of ss) first_active.is_feasible i js chain
 
     pub first_loads : (r : ℕ) → r < length p.capacities → load_of P r ≤ makespan P (starts_of ss)
     unfolding project_of
     first_loads r l =
-        load_bound P (starts_of ss) first_active.is_feasible_lem r l (capacity_between p valid.ranges r l).0
+        load_bound P (starts_of ss) first_active.is_feasible r l (capacity_between p valid.ranges r l).0
 
     pub first_at_most : makespan P (starts_of ss) ≤ work P
     first_at_most =

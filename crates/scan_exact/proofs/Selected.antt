@@ -151,7 +151,7 @@ module _ (p : Project) (comp : ℕ → ℕ) (given : Scannable p comp) (d : Diag
               fits =
                   λ u r l from to.
                   by_cases (ℕ_discrete (p.units k r) 0)
-                  (λ none. omega (arith, none, mid.is_active.is_feasible_lem.fits u r l))
+                  (λ none. omega (arith, none, mid.is_active.is_feasible.fits u r l))
                   (λ some.
                   omega (
                     arith,

@@ -58,7 +58,7 @@ Feasible-agree p S S' a f =
 pub Active-agree : (p : Project) (S S' : Starts) → Agree p S S' → Active p S → Active p S'
 Active-agree p S S' a v =
     record {
-      is_feasible_lem = Feasible-agree p S S' a v.is_feasible_lem;
+      is_feasible = Feasible-agree p S S' a v.is_feasible;
       least =
           λ j h y t l f.
           v.least j h y t (omega (arith, a j h))
@@ -108,7 +108,7 @@ pub part_active : (p : Project) (F G : ℕ → Bool) (S : Starts) → ((i : ℕ)
     → ((i : ℕ) → Has (among p G) i → F i ≡ true) → Active (among p F) S → Active (among p G) S
 part_active p F G S w v a =
     record {
-      is_feasible_lem = part_feasible p G F S v a.is_feasible_lem;
+      is_feasible = part_feasible p G F S v a.is_feasible;
       least =
           λ j h y t l f.
           a.least j (record { below = h.below; there = v j h }) y t l (part_feasible p F G (moved S j t) w f);

@@ -44,7 +44,7 @@ module _ (p : Project) (S : Starts) (sound : Sound p) (a : Active p S) (i : ℕ)
       let hk : Has p k = record { below = l; there = and_left (p.present k) (p.precedes k i) two } in
       let o : p.precedes k i ≡ true = and_right (p.present k) (p.precedes k i) two in
       let past : t < end_of p S k + p.gap k i = leb-false (end_of p S k + p.gap k i) t late in
-      by_order k hk o (omega (arith, a.is_feasible_lem.ordered k i hk h o, sound.lasts k hk)) (omega arith)
+      by_order k hk o (omega (arith, a.is_feasible.ordered k i hk h o, sound.lasts k hk)) (omega arith)
 
   short : every_below p.resources (room_test p S i t) ≡ false → WithinTicks p S i
   unfolding room_test
@@ -52,7 +52,7 @@ module _ (p : Project) (S : Starts) (sound : Sound p) (a : Active p S) (i : ℕ)
       let (r, l, x) = every_fails p.resources (room_test p S i t) z in
       let over : p.capacity r < load p S t r + p.units i r =
       leb-false (load p S t r + p.units i r) (p.capacity r) x in
-      let (k, hk, run) = load_some p S t r (omega (arith, own_fits p S sound a.is_feasible_lem i r h l)) in
+      let (k, hk, run) = load_some p S t r (omega (arith, own_fits p S sound a.is_feasible i r h l)) in
       by_resource k hk (omega arith) (omega arith)
 
   -- One tick sooner it would be early for one that precedes it, or lack units.
@@ -87,7 +87,7 @@ module _ (p : Project) (S : Starts) (sound : Sound p) (a : Active p S) (i : ℕ)
             (every_at p.resources (room_test p S i t) all_room r l));
       }
       in
-      absurd (a.least i h y t (omega arith) (move_earlier p S i t h sooner a.is_feasible_lem y)))
+      absurd (a.least i h y t (omega arith) (move_earlier p S i t h sooner a.is_feasible y)))
       short)
       early
 
@@ -177,7 +177,7 @@ module _ (p : Project) (S : Starts) (sound : Sound p) (a : Active p S) where
       (λ y. go (λ k hk b. end_bound n k hk (omega arith)) (held p S sound a i h y))
       (λ z.
       omega
-      (arith, before_next p S 0 i h zero-le, a.is_feasible_lem.as_begun i h z, cond_false {A = ℕ} 0 (p.begun i) z))
+      (arith, before_next p S 0 i h zero-le, a.is_feasible.as_begun i h z, cond_false {A = ℕ} 0 (p.begun i) z))
     where
       go : ((k : ℕ) → Has p k → S k < S i → end_of p S k ≤ p.floor + before p S (suc (S k))) → WithinTicks p S i
           → end_of p S i ≤ p.floor + before p S (suc (S i))

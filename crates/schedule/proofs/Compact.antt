@@ -115,7 +115,7 @@ compact_makespan p S unfixed f = go (opening p S)
           no_longer =
               omega (
                 arith,
-                makespan_le p c.into unfixed c.is_active.is_feasible_lem,
+                makespan_le p c.into unfixed c.is_active.is_feasible,
                 compact_latest p (shifted S d) c,
                 shifted_latest p S d above,
                 makespan_is p S,
@@ -133,7 +133,7 @@ compact_makespan p S unfixed f = go (opening p S)
 first_at_floor : (p : Project) (S : Starts) → Sound p → Unfixed p → Active p S → (k : ℕ) → Has p k
     → earliest p S ≡ S k → S k ≡ p.floor
 first_at_floor p S sound unfixed a k h e =
-    let f : Feasible p S = a.is_feasible_lem in
+    let f : Feasible p S = a.is_feasible in
     let low : p.floor ≤ S k = f.from_floor k h (unfixed.all_free k h) in
     let quiet : (u r : ℕ) → u < S k → load p S u r ≡ 0 =
     λ u r l.

@@ -158,7 +158,7 @@ pub active_is : (p : Project) (S : Starts) → active p S ≡ true → Active p 
 unfolding active least_test
 active_is p S e =
     record {
-      is_feasible_lem = feasible_is p S (and_left (feasible p S) (every_below p.size (least_test p S)) e);
+      is_feasible = feasible_is p S (and_left (feasible p S) (every_below p.size (least_test p S)) e);
       least =
           λ j h y t l f.
           let low : every_below (S j) (λ u. not (feasible p (moved S j u))) ≡ true =
@@ -182,7 +182,7 @@ pub active_of : (p : Project) (S : Starts) → Active p S → active p S ≡ tru
 unfolding active least_test
 active_of p S a =
     both
-    (feasible_of p S a.is_feasible_lem)
+    (feasible_of p S a.is_feasible)
     (every_of
     p.size
     (least_test p S)

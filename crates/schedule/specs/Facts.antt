@@ -38,7 +38,7 @@ pub record Feasible (p : Project) (S : Starts) : Type 0 where
 
 -- No start of a free activity can be made smaller, the others unchanged.
 pub record Active (p : Project) (S : Starts) : Type 0 where
-  pub is_feasible_lem : Feasible p S
+  pub is_feasible : Feasible p S
   pub least : (j : ℕ) → Has p j → p.free j ≡ true → (t : ℕ) → t < S j → Feasible p (moved S j t) → ⊥
 
 -- The same starts.

@@ -34,7 +34,7 @@ module _ (t : List ℕ) (given : Instance t) (F : ℕ → Bool) (S : Starts) (no
       → FitsOn (project_in t) F S i x
   unfolding project_in
   alone_in none r b =
-      by_cases (ℕ_discrete (units_at t i r) 0) (λ z. omega (arith, z, node.is_active.is_feasible_lem.fits x r b))
+      by_cases (ℕ_discrete (units_at t i r) 0) (λ z. omega (arith, z, node.is_active.is_feasible.fits x r b))
       (λ ne.
       omega (
         arith,
@@ -245,7 +245,7 @@ module _ (t : List ℕ) (given : Instance t) (d : Diagram) (line : ℕ) (standin
       unfolding project_in has_room_at
       room_fits y r b =
           by_cases (ℕ_discrete (units_at t i r) 0)
-          (λ z. omega (arith, z, standing.node.is_active.is_feasible_lem.fits x r b))
+          (λ z. omega (arith, z, standing.node.is_active.is_feasible.fits x r b))
           (λ ne.
           omega (
             arith,

@@ -81,7 +81,7 @@ module _ (p : Plan) (t : Term) (valid : Valid p t) where
     own =
         record {
           below = below;
-          keeps = (means v below (starts_of ss)).0 (first_active p t valid v ss first).is_feasible_lem;
+          keeps = (means v below (starts_of ss)).0 (first_active p t valid v ss first).is_feasible;
         }
 
     least : (u : ℕ) (S : Starts) (n : ℕ) → SessionOfVariant p t u S → Makespan p (variant_at t u) S n → span ≤ n

@@ -293,7 +293,7 @@ module _ (p : Plan) (w : Term) (inside : (i : ℕ) → Present w i → i < lengt
     unfolding project_of
     active_words a =
         record {
-          keeps = feasible_keeps S a.is_feasible_lem;
+          keeps = feasible_keeps S a.is_feasible;
           least =
               λ j R m l same kept.
               a.least j (has j m) refl (R j) l
@@ -310,7 +310,7 @@ module _ (p : Plan) (w : Term) (inside : (i : ℕ) → Present w i → i < lengt
     pub words_active : IsActive p w S → Active P S
     words_active a =
         record {
-          is_feasible_lem = keeps_feasible S a.keeps;
+          is_feasible = keeps_feasible S a.keeps;
           least =
               λ j h free t l f.
               a.least j (moved S j t) (present j h) (omega (arith, moved_same S j t)) (moved_other S j t)

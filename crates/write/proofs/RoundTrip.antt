@@ -135,8 +135,8 @@ module _ (s : List ℕ) (v : ℕ) (area : List ℕ) (n : ℕ) (after : List ℕ)
         term = t;
         accepted = e;
         below = l;
-        plan_back_lem = plan_back p t v;
-        term_back_lem = term_back t v;
+        plan_read = plan_back p t v;
+        term_read = term_back t v;
         accepted_back = written_accepted s p t v e l;
         same_edition = written_edition s p t v e l;
         same_capacities = written_capacities s p t v e l;

@@ -16,15 +16,15 @@ pub record RoundTrip (s : List ℕ) (v : ℕ) (bytes : List ℕ) : Type 0 where
   pub term : Term
   pub accepted : judge s ≡ accepts plan term
   pub below : v < variant_count term
-  pub plan_back_lem : Plan
-  pub term_back_lem : Term
-  pub accepted_back : judge bytes ≡ accepts plan_back_lem term_back_lem
-  pub same_edition : plan_back_lem.edition ≡ plan.edition
-  pub same_capacities : plan_back_lem.capacities ≡ plan.capacities
-  pub one_variant : variant_count term_back_lem ≡ 1
-  pub same_activities : activities (variant_at term_back_lem 0) ≡ activities (variant_at term v)
-  pub same_precedence : (i j : ℕ) → precedes (variant_at term_back_lem 0) i j ≡ precedes (variant_at term v) i j
-  pub same_project : project_of plan_back_lem (variant_at term_back_lem 0) ≡ project_of plan (variant_at term v)
+  pub plan_read : Plan
+  pub term_read : Term
+  pub accepted_back : judge bytes ≡ accepts plan_read term_read
+  pub same_edition : plan_read.edition ≡ plan.edition
+  pub same_capacities : plan_read.capacities ≡ plan.capacities
+  pub one_variant : variant_count term_read ≡ 1
+  pub same_activities : activities (variant_at term_read 0) ≡ activities (variant_at term v)
+  pub same_precedence : (i j : ℕ) → precedes (variant_at term_read 0) i j ≡ precedes (variant_at term v) i j
+  pub same_project : project_of plan_read (variant_at term_read 0) ≡ project_of plan (variant_at term v)
   pub same_schedules : (S : Starts)
-      → feasible (project_of plan_back_lem (variant_at term_back_lem 0)) S ≡ feasible (project_of plan (variant_at term v)) S
+      → feasible (project_of plan_read (variant_at term_read 0)) S ≡ feasible (project_of plan (variant_at term v)) S
   pub same_bytes : (area : List ℕ) → write_of bytes 0 area ≡ write_of s v area
