@@ -1,12 +1,11 @@
 -- BEST: the first of the pairs that are shortest, with its makespan, the number of pairs and how many are shortest. No
 -- feasible session of any variant is shorter: what holds of it is on the page of theorems, `demand_3` and
 -- `first_shortest_row`.
-use Rattle.std.specs.Prelude.{ℕ, Bool, true, false, List, [], map, eqb, leb, length, get_or, drop}
+use Rattle.std.specs.Prelude.{ℕ, Bool, true, false, List, [], map, eqb, leb, length, get_or, drop, Result, Ok, Err}
 use Rattle.base.specs.Lists.{keep, least_of}
 use Rattle.plan.specs.Plan.{Plan}
 use Rattle.plan.specs.declared.Refusal.{Refusal}
 use Rattle.plan.specs.declared.Refusal.TheVariants.{OverCap}
-use Rattle.timetable.specs.Mark.{no_starts}
 use Rattle.term.specs.Term.{Term}
 use Rattle.schedule.specs.Schedule.{Starts, makespan}
 use Rattle.schedule.specs.Sessions.{starts_of}
@@ -15,7 +14,6 @@ use Rattle.variant.specs.Pairs.{pairs, pair_count}
 use Rattle.variant.specs.Timetable.{timetable_of}
 use Rattle.judge.specs.Judge.{Verdict, accepts, refuses, judge}
 use Rattle.answers.specs.declared.Best.{Best}
-use Rattle.answers.specs.declared.BestAnswer.TheVariants.{Found, Refused}
 
 abbrev pub makespan_in : Plan → Term → ℕ → Starts → ℕ
 makespan_in p t v S = makespan (project_of p (variant_at t v)) S
@@ -44,21 +42,21 @@ first_shortest p t = get_or (shortest_pairs p t) 0 []
 abbrev pub best_row : Plan → Term → List ℕ → Best
 best_row p t row =
     record {
-      answer = Found (row_variant row) (row_span p t row) (pair_count p t) (shortest_count p t);
+      variant = row_variant row;
+      makespan = row_span p t row;
+      count = pair_count p t;
+      shortest = shortest_count p t;
       timetable = record { starts = timetable_of p (row_starts row) };
     }
 
-abbrev pub no_best : Refusal → Best
-no_best r = record { answer = Refused r; timetable = record { starts = no_starts } }
-
 -- By whether the cap allows the pairs.
-abbrev pub best_within : Bool → Plan → Term → Best
-best_within true p t = best_row p t (first_shortest p t)
-best_within false p t = no_best OverCap
+abbrev pub best_within : Bool → Plan → Term → Result Best Refusal
+best_within true p t = Ok (best_row p t (first_shortest p t))
+best_within false p t = Err OverCap
 
-abbrev pub best_by : Verdict → ℕ → Best
+abbrev pub best_by : Verdict → ℕ → Result Best Refusal
 best_by (accepts p t) cap = best_within (leb (pair_count p t) cap) p t
-best_by (refuses r) cap = no_best r
+best_by (refuses r) cap = Err r
 
-unfoldable pub best_of : List ℕ → ℕ → Best
+unfoldable pub best_of : List ℕ → ℕ → Result Best Refusal
 best_of s cap = best_by (judge s) cap

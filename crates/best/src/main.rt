@@ -2,14 +2,14 @@
 #![tactic(auto)]
 
 fn main(rt: HostRuntime) {
+    let mut err = rt.stderr();
     let mut file = [0u8; console::FILE];
-    let input = console::read_input(&mut rt.stdin(), &mut file);
-    if !input.is_read {
-        console::fail(&mut rt.stderr(), b"standard input");
+    let Ok(n) = console::read_input(&mut rt.stdin(), &mut file) else {
+        console::fail(&mut err, "standard input");
         return;
-    }
-    let n = input.length;
-    if !console::put_best(&mut rt.stdout(), calls::best(&file[..n], 1000000)) {
-        console::fail(&mut rt.stderr(), b"standard output");
+    };
+    let best = calls::best(&file[..n], 1000000);
+    if console::put_best(&mut rt.stdout(), best).is_err() {
+        console::fail(&mut err, "standard output");
     }
 }

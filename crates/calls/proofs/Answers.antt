@@ -16,7 +16,6 @@ use Rattle.plan.specs.Plan.{Plan, plan_of}
 use Rattle.plan.specs.declared.Refusal.TheVariants.{OverCap, AreaTooShort}
 use Rattle.term.specs.Term.{Term}
 use Rattle.term.specs.Variants.{variant_count}
-use Rattle.timetable.specs.Mark.{no_starts}
 use Rattle.tally.specs.Seen.{kept, no_tally}
 use Rattle.tally.specs.declared.Tally.{Tally}
 use Rattle.variant.specs.Pairs.{pairs, pair_count}
@@ -27,9 +26,8 @@ use Rattle.judge.proofs.Ranges.{acts_are}
 use Rattle.answers.specs.Listed.{list_by, cells_needed}
 use Rattle.answers.specs.Shortest.{best_by}
 use Rattle.answers.specs.declared.Best.{Best}
-use Rattle.answers.specs.declared.BestAnswer.TheVariants.{Found}
-use Rattle.answers.specs.declared.BestAnswer.TheVariants as bests
-use Rattle.answers.specs.declared.ListAnswer.TheVariants as lists
+use Rattle.std.specs.Prelude.{Ok, Err}
+use Rattle.plan_exact.proofs.Answers.{found}
 use Rattle.sweep.specs.Swept.{Swept}
 use Rattle.calls.proofs.Swept.{allowed, too_many, all_rows_lem, kept_best}
 
@@ -56,15 +54,15 @@ module _ (c : Campaign) (t : Term) (holds : HoldsPlan c t) (cap : ℕ) where
 
     module _ (before : List ℕ) where
       pub lists_refused : cap < r.count
-          → record { answer = lists.Refused OverCap; area = before } ≡ list_by (accepts p t) cap before
+          → record { answer = Err OverCap; area = before } ≡ list_by (accepts p t) cap before
       lists_refused l = rw (pairs_refused l) refl
 
       pub lists_short : r.count ≤ cap → length before < r.count * (c.tables.acts + 1)
-          → record { answer = lists.Refused (AreaTooShort (r.count * (c.tables.acts + 1))); area = before }
+          → record { answer = Err (AreaTooShort (r.count * (c.tables.acts + 1))); area = before }
           ≡ list_by (accepts p t) cap before
       lists_short l short =
           rw ((pairs_allowed l).1, lt-leb (cells_needed p t) (length before) (omega (arith, needed_is l)))
-          (ap (λ (n : ℕ). record { answer = lists.Refused (AreaTooShort n); area = before }) (needed_is l))
+          (ap (λ (n : ℕ). record { answer = Err (AreaTooShort n); area = before }) (needed_is l))
 
       -- The second sweep, with the area that is lent, and its rows sorted.
       pub lists_rows : r.count ≤ cap → r.count * (c.tables.acts + 1) ≤ length before → (last : Tally)
@@ -73,7 +71,7 @@ module _ (c : Campaign) (t : Term) (holds : HoldsPlan c t) (cap : ℕ) where
           → after
           ≡ cells_of (sorted (rows_in (c.tables.acts + 1) r.count found))
           ++ drop (r.count * (c.tables.acts + 1)) found
-          → record { answer = lists.Listed r.count; area = after } ≡ list_by (accepts p t) cap before
+          → record { answer = Ok r.count; area = after } ≡ list_by (accepts p t) cap before
       lists_rows l room last found after swept sort =
           let number : r.count ≡ pair_count p t = sym (pairs_allowed l).0 in
           let done : after ≡ cells_of (pairs p t) ++ drop (cells_needed p t) before =
@@ -85,21 +83,18 @@ module _ (c : Campaign) (t : Term) (holds : HoldsPlan c t) (cap : ℕ) where
           (omega (arith, needed_is l))
           in
           rw ((pairs_allowed l).1, le-leb (cells_needed p t) (length before) (omega (arith, needed_is l)))
-          (λ i. record { answer = lists.Listed (number i); area = done i })
+          (λ i. record { answer = Ok (number i); area = done i })
 
     -- BEST
-    pub best_refused : cap < r.count → (b : Best) → b.answer ≡ bests.Refused OverCap
-        → b.timetable.starts ≡ no_starts
-        → b ≡ best_by (accepts p t) cap
-    best_refused l b answer none =
-        rw (pairs_refused l) (λ i. record { answer = answer i; timetable = record { starts = none i } })
+    pub best_refused : cap < r.count → Err OverCap ≡ best_by (accepts p t) cap
+    best_refused l = rw (pairs_refused l) refl
 
     pub best_found : latest_possible < end → r.count ≤ cap → (b : Best)
-        → b.answer ≡ Found r.best_variant r.best_end r.count r.ties
-        → b.timetable.starts ≡ r.best.starts → b ≡ best_by (accepts p t) cap
-    best_found late l b answer timetable =
+        → b ≡ found r.best_variant r.best_end r.count r.ties r.best.starts → Ok b ≡ best_by (accepts p t) cap
+    best_found late l b answer =
         let few : pair_count p t ≤ cap = omega (arith, (pairs_allowed l).0) in
         rw (pairs_allowed l).1
+        (ap Ok
         (kept_best c t holds cap (kept (no_tally end) area) (kept r is.0) refl is.1 refl late few b
-        (answer ∙ ap (λ (n : ℕ). Found r.best_variant r.best_end n r.ties) (sym (pairs_allowed l).0))
-        timetable)
+        (answer
+        ∙ ap (λ (n : ℕ). found r.best_variant r.best_end n r.ties r.best.starts) (sym (pairs_allowed l).0))))

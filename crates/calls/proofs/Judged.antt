@@ -10,14 +10,15 @@ use Rattle.judge.specs.Judge.{Verdict, judge}
 use Rattle.answers.specs.Listed.{list_by, list_of}
 use Rattle.answers.specs.Shortest.{best_by, best_of}
 use Rattle.answers.specs.declared.Best.{Best}
-use Rattle.answers.specs.declared.ListAnswer.{ListAnswer}
+use Rattle.std.specs.Prelude.{Result}
+use Rattle.plan.specs.declared.Refusal.{Refusal}
 
 module _ (s : List ℕ) (v : Verdict) (is : judge s ≡ v) (cap : ℕ) where
-  pub list_of_lem : (before : List ℕ) (o : Outcome ListAnswer) → o ≡ list_by v cap before → o ≡ list_of s cap before
+  pub list_of_lem : (before : List ℕ) (o : Outcome (Result ℕ Refusal)) → o ≡ list_by v cap before → o ≡ list_of s cap before
   unfolding list_of
   list_of_lem before o = subst (λ (x : Verdict). o ≡ list_by x cap before) (sym is)
 
-  pub best_of_lem : (r : Best) → r ≡ best_by v cap → r ≡ best_of s cap
+  pub best_of_lem : (r : Result Best Refusal) → r ≡ best_by v cap → r ≡ best_of s cap
   unfolding best_of
   best_of_lem r = subst (λ (x : Verdict). r ≡ best_by x cap) (sym is)
 

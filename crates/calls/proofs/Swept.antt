@@ -38,12 +38,11 @@ use Rattle.judge.proofs.Ranges.{acts_are}
 use Rattle.answers.specs.Listed.{cells_needed}
 use Rattle.answers.specs.Shortest.{row_span, shortest_count, first_shortest, best_row}
 use Rattle.answers.specs.declared.Best.{Best}
-use Rattle.answers.specs.declared.BestAnswer.TheVariants.{Found}
 use Rattle.plan_exact.proofs.Variant.{chosen}
 use Rattle.plan_exact.proofs.Found.{variant_latest}
 use Rattle.plan_exact.proofs.Pairs.{Pair, row_pair}
 use Rattle.plan_exact.proofs.Rows.{rows_sorted, rows_count, pairs_some}
-use Rattle.plan_exact.proofs.Answers.{end_at, ranked, Earliest, session_long, span_is, earliest_ties, earliest_best}
+use Rattle.plan_exact.proofs.Answers.{found, end_at, ranked, Earliest, session_long, span_is, earliest_ties, earliest_best}
 use Rattle.sorting.specs.Rows.{rows_in}
 use Rattle.sorting.proofs.Rows.{rows_in_cells}
 use Rattle.sweep.specs.Swept.{project_at, new_at, Swept}
@@ -201,11 +200,10 @@ module _ (c : Campaign) (t : Term) (holds : HoldsPlan c t) where
 
     -- The schedule that is kept is what BEST answers, with as many ties as are shortest.
     pub kept_best : k.tally.ties ≡ 0 → latest_possible < k.tally.best_end → pair_count p t ≤ cap → (b : Best)
-        → b.answer
-        ≡ Found after.tally.best_variant after.tally.best_end (pair_count p t) after.tally.ties
-        → b.timetable.starts ≡ after.tally.best.starts
+        → b
+        ≡ found after.tally.best_variant after.tally.best_end (pair_count p t) after.tally.ties after.tally.best.starts
         → b ≡ best_row p t (first_shortest p t)
-    kept_best untied above few b answer timetable =
+    kept_best untied above few b answer =
         let last : Tally = (run acts cap k es).tally in
         let f : FirstFound last es = first above few in
         let (v, l, row, m, is) = entry_is (project_at c t) s.rows (variant_count t) f.entry f.one_of in
@@ -235,6 +233,5 @@ module _ (c : Campaign) (t : Term) (holds : HoldsPlan c t) where
         ∙ earliest_ties p t holds.valid v row earliest in
         earliest_best p t holds.valid v row earliest b
         (answer
-        ∙ ap₂ (λ (n x : ℕ). Found n x (pair_count p t) after.tally.ties) variant end
-        ∙ ap (Found v (end_at p t v row) (pair_count p t)) ties)
-        (timetable ∙ tail-eq_of_cons-eq (tail-eq_of_cons-eq rank))
+        ∙ ap₂ (λ (n x : ℕ). found n x (pair_count p t) after.tally.ties after.tally.best.starts) variant end
+        ∙ ap₂ (found v (end_at p t v row) (pair_count p t)) ties (tail-eq_of_cons-eq (tail-eq_of_cons-eq rank)))

@@ -1,5 +1,5 @@
 -- Every row of the table holds of the definitions: one test, computed over the whole table.
-use mathlib.Core.Bool.{Bool, true, ◌&&◌}
+use mathlib.Core.Bool.{beq, Bool, true, ◌&&◌}
 use mathlib.Core.List.Memᴰ
 use mathlib.Core.List.{List, [], ◌∷◌, ◌++◌, Memᴰ}
 use mathlib.Core.Logic.{⊎_elim}
@@ -26,9 +26,9 @@ use Rattle.variant.specs.Project.{project_of}
 use Rattle.variant.specs.Timetable.{is_marked}
 use Rattle.variant.specs.Written.{written, variant_plan, dissolved, joined}
 use Rattle.write.specs.Answer.{write_of}
-use Rattle.write.specs.declared.WriteAnswer.TheVariants.{Written}
-use Rattle.answers.specs.Shortest.{no_best}
-use Rattle.answers.specs.declared.BestAnswer.TheVariants.{Found}
+use lib.Dec.{eqb}
+use borrow.Author.Tests.{eqb-true}
+use Rattle.std.specs.Prelude.{Ok, Err}
 use Rattle.scan.specs.Components.{merged, component_below}
 use Rattle.scan.specs.Scan.{ready_tick, held, has_room, combinations_from, move, freeze, delete, attach, begun}
 use Rattle.campaigns.specs.Table.{Row, reads, has_variants, writes, checks, lists, spans, finds, stops}
@@ -38,38 +38,44 @@ use Rattle.campaigns.proofs.Searched.{is_first, found, list_model, list_is, best
 use Rattle.campaigns.proofs.Searched.{has_model, spans_is}
 use Rattle.campaigns.proofs.Checked.{within_at_starts, check_model, check_is}
 use Rattle.campaigns.proofs.Variants.{variants_by, variants_are}
-use Rattle.campaigns.proofs.Tests.{same_number, number_same, same_list, list_same, same_read, read_same}
-use Rattle.campaigns.proofs.Tests.{same_write, write_same, same_check, check_same}
-use Rattle.campaigns.proofs.Tests.{same_listing, listing_same, same_best, best_same, same_outcome, outcome_same}
+use Rattle.campaigns.proofs.Tests.{same_number, number_same, same_list, list_same, same_result, result_same}
+use Rattle.campaigns.proofs.Tests.{same_counts, counts_same, bool_same, same_best, best_same, same_outcome, outcome_same}
 
 abbrev test : Row → Bool
-test (reads s answer) = same_read (read_by s) answer
+test (reads s answer) = same_result same_counts (read_by s) answer
 test (has_variants s n) = same_number (variants_by s) n
 test (writes s v bytes) =
-    same_outcome same_write (write_of s v lent)
-    (record { answer = Written (length bytes); area = bytes ++ drop (length bytes) lent })
-test (checks s v starts answer) = same_check (check_model s v starts) answer
+    same_outcome (same_result eqb) (write_of s v lent)
+    (record { answer = Ok (length bytes); area = bytes ++ drop (length bytes) lent })
+test (checks s v starts answer) = same_result beq (check_model s v starts) answer
 test (lists s cap cells answer rows) =
-    same_outcome same_listing (list_model s cap (sevens cells))
+    same_outcome (same_result eqb) (list_model s cap (sevens cells))
     (record { answer = answer; area = cells_of rows ++ drop (length (cells_of rows)) (sevens cells) })
 test (spans s v makespans) = has_model s v && same_list (spans_model s v) makespans
 test (finds s cap v span count shortest starts) =
-    same_best (best_model s cap)
-    (record { answer = Found v span count shortest; timetable = record { starts = timetable starts } })
-test (stops s cap r) = same_best (best_model s cap) (no_best r)
+    same_result same_best (best_model s cap)
+    (Ok
+    (record {
+      variant = v;
+      makespan = span;
+      count = count;
+      shortest = shortest;
+      timetable = record { starts = timetable starts };
+    }))
+test (stops s cap r) = same_result same_best (best_model s cap) (Err r)
 
 test_holds : (row : Row) → test row ≡ true → Holds row
-test_holds (reads s answer) e = read_by_lem s ∙ read_same (read_by s) answer e
+test_holds (reads s answer) e = read_by_lem s ∙ result_same same_counts counts_same (read_by s) answer e
 test_holds (has_variants s n) e = variants_are s n (number_same (variants_by s) n e)
-test_holds (writes s v bytes) e = outcome_same same_write write_same (write_of s v lent) _ e
-test_holds (checks s v starts answer) e = check_is s v starts ∙ check_same (check_model s v starts) answer e
+test_holds (writes s v bytes) e = outcome_same (same_result eqb) (result_same eqb eqb-true) (write_of s v lent) _ e
+test_holds (checks s v starts answer) e = check_is s v starts ∙ result_same beq bool_same (check_model s v starts) answer e
 test_holds (lists s cap cells answer rows) e =
-    list_is s cap (sevens cells) ∙ outcome_same same_listing listing_same (list_model s cap (sevens cells)) _ e
+    list_is s cap (sevens cells) ∙ outcome_same (same_result eqb) (result_same eqb eqb-true) (list_model s cap (sevens cells)) _ e
 test_holds (spans s v makespans) e =
     spans_is s v makespans (and_left (has_model s v) _ e)
     (list_same (spans_model s v) makespans (and_right (has_model s v) _ e))
-test_holds (finds s cap v span count shortest starts) e = best_is s cap ∙ best_same (best_model s cap) _ e
-test_holds (stops s cap r) e = best_is s cap ∙ best_same (best_model s cap) _ e
+test_holds (finds s cap v span count shortest starts) e = best_is s cap ∙ result_same same_best best_same (best_model s cap) _ e
+test_holds (stops s cap r) e = best_is s cap ∙ result_same same_best best_same (best_model s cap) _ e
 
 all_pass : every test table ≡ true
 unfolding table read_by variants_by parse plan_lines a_line tested the_lines the_end the_capacities counts_form matched

@@ -21,8 +21,8 @@ use Rattle.variant.specs.Project.{project_of, variant_at}
 use Rattle.variant.specs.Timetable.{is_marked, is_session}
 use Rattle.judge.specs.Judge.{Verdict, accepts, refuses, judge}
 use Rattle.inspect.specs.Answer.{check_variant, check_by, check_of}
-use Rattle.inspect.specs.declared.CheckAnswer.{CheckAnswer}
-use Rattle.inspect.specs.declared.CheckAnswer.TheVariants.{Checked, Refused}
+use Rattle.std.specs.Prelude.{Result, Ok, Err}
+use Rattle.plan.specs.declared.Refusal.{Refusal}
 
 module _ (P : Project) (S : Starts) where
   abbrev within_at : ℕ → Bool
@@ -74,15 +74,15 @@ abbrev is_kept : Plan → Term → List ℕ → Bool
 is_kept p w row =
     let P : Project = project_of p w in is_marked w row && (is_ordered P (starts_of row) && within_at_starts P (starts_of row))
 
-abbrev test_variant : Bool → Plan → Term → ℕ → List ℕ → CheckAnswer
-test_variant true p t v row = Checked (is_kept p (variant_at t v) row)
-test_variant false p t v row = Refused NoSuchVariant
+abbrev test_variant : Bool → Plan → Term → ℕ → List ℕ → Result Bool Refusal
+test_variant true p t v row = Ok (is_kept p (variant_at t v) row)
+test_variant false p t v row = Err NoSuchVariant
 
-abbrev test_verdict : Verdict → ℕ → List ℕ → CheckAnswer
+abbrev test_verdict : Verdict → ℕ → List ℕ → Result Bool Refusal
 test_verdict (accepts p t) v row = test_variant (ltb v (variant_count t)) p t v row
-test_verdict (refuses r) v row = Refused r
+test_verdict (refuses r) v row = Err r
 
-unfoldable pub check_model : List ℕ → ℕ → List ℕ → CheckAnswer
+unfoldable pub check_model : List ℕ → ℕ → List ℕ → Result Bool Refusal
 check_model s v row = test_verdict (judge s) v row
 
 test_variant_lem : (p : Plan) (t : Term) (v : ℕ) (row : List ℕ) (b : Bool)
@@ -90,7 +90,7 @@ test_variant_lem : (p : Plan) (t : Term) (v : ℕ) (row : List ℕ) (b : Bool)
 unfolding is_session
 test_variant_lem p t v row true =
     let w : Term = variant_at t v in
-    ap (λ (b : Bool). Checked (is_marked w row && b)) (feasible_same (project_of p w) (starts_of row))
+    ap (λ (b : Bool). Ok (is_marked w row && b)) (feasible_same (project_of p w) (starts_of row))
 test_variant_lem p t v row false = refl
 
 test_verdict_lem : (v : ℕ) (row : List ℕ) (o : Verdict) → check_by o v row ≡ test_verdict o v row

@@ -36,12 +36,11 @@ use Rattle.variant.specs.Timetable.{timetable_of}
 use Rattle.judge.specs.Judge.{Verdict, accepts, refuses, judge}
 use Rattle.judge.proofs.Accepts.{accepted_valid}
 use Rattle.answers.specs.Listed.{list_within, list_by, list_of}
-use Rattle.answers.specs.Shortest.{row_variant, row_starts, row_span, shortest_pairs, shortest_count, first_shortest, no_best}
+use Rattle.answers.specs.Shortest.{row_variant, row_starts, row_span, shortest_pairs, shortest_count, first_shortest}
 use Rattle.answers.specs.Shortest.{best_within, best_by, best_of}
 use Rattle.answers.specs.declared.Best.{Best}
-use Rattle.answers.specs.declared.BestAnswer.TheVariants.{Found}
-use Rattle.answers.specs.declared.ListAnswer.{ListAnswer}
-use Rattle.answers.specs.declared.ListAnswer.TheVariants.{Listed, Refused}
+use Rattle.std.specs.Prelude.{Result, Ok, Err}
+use Rattle.plan.specs.declared.Refusal.{Refusal}
 use Rattle.plan_exact.proofs.Rows.{rows_sorted}
 use Rattle.plan_exact.proofs.Variant.{chosen}
 use Rattle.plan_exact.proofs.Found.{variant_scan}
@@ -107,22 +106,22 @@ found_is s p t e =
     sym (rows_sorted p t (all_rows p t) (all_perm p t valid))
 
 -- LIST, by rows of so many cells.
-abbrev list_rows : Bool → Bool → List (List ℕ) → ℕ → List ℕ → Outcome ListAnswer
-list_rows false fits rows width area = record { answer = Refused OverCap; area = area }
-list_rows true false rows width area = record { answer = Refused (AreaTooShort (length rows * width)); area = area }
+abbrev list_rows : Bool → Bool → List (List ℕ) → ℕ → List ℕ → Outcome (Result ℕ Refusal)
+list_rows false fits rows width area = record { answer = Err OverCap; area = area }
+list_rows true false rows width area = record { answer = Err (AreaTooShort (length rows * width)); area = area }
 list_rows true true rows width area =
-    record { answer = Listed (length rows); area = cells_of rows ++ drop (length rows * width) area }
+    record { answer = Ok (length rows); area = cells_of rows ++ drop (length rows * width) area }
 
-abbrev listed : Plan → ℕ → List ℕ → List (List ℕ) → Outcome ListAnswer
+abbrev listed : Plan → ℕ → List ℕ → List (List ℕ) → Outcome (Result ℕ Refusal)
 listed p cap area rows =
     let width : ℕ = suc (length p.activities) in
     list_rows (leb (length rows) cap) (leb (length rows * width) (length area)) rows width area
 
-abbrev list_verdict : Verdict → ℕ → List ℕ → Outcome ListAnswer
+abbrev list_verdict : Verdict → ℕ → List ℕ → Outcome (Result ℕ Refusal)
 list_verdict (accepts p t) cap area = listed p cap area (found p t)
-list_verdict (refuses r) cap area = record { answer = Refused r; area = area }
+list_verdict (refuses r) cap area = record { answer = Err r; area = area }
 
-unfoldable pub list_model : List ℕ → ℕ → List ℕ → Outcome ListAnswer
+unfoldable pub list_model : List ℕ → ℕ → List ℕ → Outcome (Result ℕ Refusal)
 list_model s cap area = list_verdict (judge s) cap area
 
 list_rows_lem : (a b : Bool) (p : Plan) (t : Term) (area : List ℕ)
@@ -149,20 +148,24 @@ list_is s cap area = list_verdict_lem s cap area (judge s) refl
 abbrev shortest_of : Plan → Term → List (List ℕ) → List (List ℕ)
 shortest_of p t rows = keep (λ row. eqb (row_span p t row) (least_of (map (row_span p t) rows))) rows
 
-abbrev best_rows : Bool → Plan → Term → List (List ℕ) → Best
+abbrev best_rows : Bool → Plan → Term → List (List ℕ) → Result Best Refusal
 best_rows true p t rows =
     let row : List ℕ = get_or (shortest_of p t rows) 0 [] in
-    record {
-      answer = Found (row_variant row) (row_span p t row) (length rows) (length (shortest_of p t rows));
+    Ok
+    (record {
+      variant = row_variant row;
+      makespan = row_span p t row;
+      count = length rows;
+      shortest = length (shortest_of p t rows);
       timetable = record { starts = timetable_of p (row_starts row) };
-    }
-best_rows false p t rows = no_best OverCap
+    })
+best_rows false p t rows = Err OverCap
 
-abbrev best_verdict : Verdict → ℕ → Best
+abbrev best_verdict : Verdict → ℕ → Result Best Refusal
 best_verdict (accepts p t) cap = best_rows (leb (length (found p t)) cap) p t (found p t)
-best_verdict (refuses r) cap = no_best r
+best_verdict (refuses r) cap = Err r
 
-unfoldable pub best_model : List ℕ → ℕ → Best
+unfoldable pub best_model : List ℕ → ℕ → Result Best Refusal
 best_model s cap = best_verdict (judge s) cap
 
 best_rows_lem : (a : Bool) (p : Plan) (t : Term) → best_within a p t ≡ best_rows a p t (pairs p t)

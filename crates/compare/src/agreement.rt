@@ -1,11 +1,11 @@
-// Whether the planner's answers on a file are those of the plain side. `own` has the enumerator's rows.
-use crate::asked::{Asked, with_same};
-use crate::rows::{Row, first_shortest, hold, is_same};
-use answers::{BestAnswer, ListAnswer};
+// Whether the planner's answers on a file are those of the plain side. `rows` has the enumerator's rows.
+use crate::areas::begins;
+use crate::asked::Asked;
+use crate::rows::{Row, first_shortest};
 use enumerator::Enumerated;
-use plain::{ACTS, Judged};
+use plain::{Judged, Plan};
 use plan::Refusal;
-use read::ReadAnswer;
+use read::Counts;
 
 // The largest area that LIST is lent.
 pub const CELLS: usize = 65536;
@@ -16,149 +16,172 @@ pub const MOST: u32 = 4294967295;
 // What stands in an area before LIST: no variant and no start is that large, and the mark is larger.
 const BLANK: u32 = 4000000000;
 
-fn wide(n: u32) -> u64 {
-    n as u64
+// A refusal as the programs print it.
+#[derive(Clone, Copy, PartialEq, Eq)]
+pub struct Numbered {
+    pub number: u64,
+    pub figure: u64,
 }
 
-// Did the enumerator try all sessions, and have room for the rows of the active ones?
-pub fn is_known(e: Enumerated) -> bool {
-    e.known & (e.cells <= CELLS)
+pub const NO_SUCH_VARIANT: Numbered = Numbered {
+    number: 9,
+    figure: 0,
+};
+
+const OVER_CAP: Numbered = Numbered {
+    number: 7,
+    figure: 0,
+};
+
+pub fn area_too_short(needed: usize) -> Numbered {
+    Numbered {
+        number: 8,
+        figure: needed as u64,
+    }
 }
 
-pub fn is_refusal(r: Refusal, number: u64, figure: u64) -> bool {
-    (plan::number(r) == number) & (plan::figure(r) == figure)
+impl Numbered {
+    pub fn of(refusal: Refusal) -> Numbered {
+        Numbered {
+            number: refusal.number(),
+            figure: refusal.figure(),
+        }
+    }
+
+    // The plain side's refusal.
+    pub fn own(refusal: plain::Refusal) -> Numbered {
+        Numbered {
+            number: refusal.number(),
+            figure: refusal.figure(),
+        }
+    }
+}
+
+// The enumerator's rows, if it had room for the rows of the active sessions.
+pub fn rows_of(e: Enumerated, area: &[u32; CELLS]) -> Option<&[u32]> {
+    area.get(..e.cells)
 }
 
 // READ has the enumerator's numbers, or its refusal.
-pub fn read_agrees(file: &[u8], j: Judged) -> bool {
-    match read::read(file) {
-        ReadAnswer::Read {
-            acts,
-            nodes,
-            variants,
-        } => {
-            let is_same = (acts == j.acts as u64) & (nodes == j.nodes as u64);
-            (j.number == 0) & is_same & (variants == wide(j.variants))
+pub fn read_agrees(file: &[u8], j: &Judged) -> bool {
+    match (read::read(file), j) {
+        (Ok(counts), Judged::Accepted { plan, variants }) => {
+            counts
+                == Counts {
+                    acts: plan.acts,
+                    nodes: plan.nodes,
+                    variants: *variants,
+                }
         }
-        ReadAnswer::Refused(r) => is_refusal(r, j.number, j.figure),
+        (Err(refusal), Judged::Refused(own)) => Numbered::of(refusal) == Numbered::own(*own),
+        _ => false,
     }
-}
-
-fn list_refuses(r: Refusal, cap: u32, cells: usize, e: Enumerated) -> bool {
-    if cap < e.count {
-        return is_refusal(r, 7, 0);
-    }
-    (cells < e.cells) & is_refusal(r, 8, e.cells as u64)
 }
 
 // LIST has the enumerator's rows in their order, if they are within cap and area, and leaves every other cell.
-fn list_in(file: &[u8], cap: u32, area: &mut [u32], e: Enumerated, own: &[u32]) -> bool {
+fn list_in(file: &[u8], cap: u32, area: &mut [u32], e: Enumerated, rows: &[u32]) -> bool {
     match calls::list(file, cap, area) {
-        ListAnswer::Listed(rows) => {
-            let has_room = (e.count <= cap) & (e.cells <= area.len());
-            let is_listed = (rows == wide(e.count)) & is_same(area, own, e.cells);
-            has_room & is_listed & hold(area, e.cells, BLANK)
+        Ok(count) => { e.count <= cap && count == u64::from(e.count) && begins(area, rows, BLANK) }
+        Err(refusal) => {
+            let own = if cap < e.count {
+                OVER_CAP
+            } else {
+                area_too_short(e.cells)
+            };
+            let is_due = cap < e.count || area.len() < e.cells;
+            is_due && Numbered::of(refusal) == own && begins(area, &[], BLANK)
         }
-        ListAnswer::Refused(r) => list_refuses(r, cap, area.len(), e) & hold(area, 0, BLANK),
     }
 }
 
-pub fn list_agrees(file: &[u8], cap: u32, cells: usize, e: Enumerated, own: &[u32]) -> bool {
+pub fn list_agrees(file: &[u8], cap: u32, cells: usize, e: Enumerated, rows: &[u32]) -> bool {
     if CELLS < cells {
         return false;
     }
     let mut area = [BLANK; CELLS];
-    list_in(file, cap, &mut area[..cells], e, own)
-}
-
-// Is a session this row, with the mark where the row has it?
-fn is_row(variant: u64, makespan: u64, starts: [u32; ACTS], row: Row) -> bool {
-    let own = row.starts;
-    let is_as_long = makespan == wide(row.makespan);
-    (variant == wide(row.variant)) & is_as_long & is_same(&starts, &own, ACTS)
+    list_in(file, cap, &mut area[..cells], e, rows)
 }
 
 // BEST has the enumerator's first shortest row, the number of rows and of the shortest, if the rows are within the cap.
 // No feasible session is shorter.
-fn best_agrees(file: &[u8], cap: u32, e: Enumerated, own: &[u32]) -> bool {
-    let best = calls::best(file, cap);
-    let answer = best.answer;
-    let timetable = best.timetable;
-    let starts = timetable.starts;
-    match answer {
-        BestAnswer::Found {
-            variant,
-            makespan,
-            count,
-            shortest,
-        } => {
-            let is_counted = (count == wide(e.count)) & (shortest == wide(e.shortest));
-            let is_first = is_row(variant, makespan, starts, first_shortest(file, e, own));
-            (e.count <= cap) & is_counted & is_first & (makespan == wide(e.makespan))
+fn best_agrees(file: &[u8], p: &Plan, cap: u32, e: Enumerated, rows: &[u32]) -> bool {
+    match calls::best(file, cap) {
+        Ok(best) => {
+            let starts = best.timetable.starts;
+            let row = Row {
+                variant: best.variant,
+                makespan: best.makespan,
+                starts,
+            };
+            e.count <= cap
+                && best.count == u64::from(e.count)
+                && best.shortest == u64::from(e.shortest)
+                && best.makespan == u64::from(e.makespan)
+                && first_shortest(p, rows) == Some(row)
         }
-        BestAnswer::Refused(r) => (cap < e.count) & is_refusal(r, 7, 0),
+        Err(refusal) => cap < e.count && Numbered::of(refusal) == OVER_CAP,
     }
 }
 
 // The calls that take a cap, with the largest area.
-fn cap_agrees(file: &[u8], cap: u32, e: Enumerated, own: &[u32]) -> bool {
-    list_agrees(file, cap, CELLS, e, own) & best_agrees(file, cap, e, own)
+fn cap_agrees(file: &[u8], p: &Plan, cap: u32, e: Enumerated, rows: &[u32]) -> bool {
+    list_agrees(file, cap, CELLS, e, rows) && best_agrees(file, p, cap, e, rows)
 }
 
-// READ, LIST and BEST, on both sides of the least cap and the least area that give an answer.
-fn agrees(file: &[u8], e: Enumerated, own: &[u32]) -> bool {
-    if e.count == 0 {
+// LIST and BEST, on both sides of the least cap and the least area that give an answer.
+fn agrees(file: &[u8], p: &Plan, e: Enumerated, rows: &[u32]) -> bool {
+    if e.count == 0 || e.cells == 0 {
         return false;
     }
-    if e.cells == 0 {
-        return false;
-    }
-    let is_read = read_agrees(file, plain::judge(file));
-    let is_capped = cap_agrees(file, e.count, e, own) & cap_agrees(file, e.count - 1, e, own);
-    let has_room = list_agrees(file, MOST, e.cells, e, own);
-    is_read & is_capped & has_room & list_agrees(file, MOST, e.cells - 1, e, own)
+    cap_agrees(file, p, e.count, e, rows)
+        && cap_agrees(file, p, e.count - 1, e, rows)
+        && list_agrees(file, MOST, e.cells, e, rows)
+        && list_agrees(file, MOST, e.cells - 1, e, rows)
 }
 
-// WRITE and CHECK.
-fn asked_of(file: &[u8], e: Enumerated, own: &[u32]) -> Asked {
-    let j = plain::judge(file);
-    let t = crate::written::compared(file, j, crate::asked::none());
-    crate::checked::rows_compared(file, j, e, own, t)
-}
-
-// What the enumerator found, what WRITE and CHECK were asked, and whether the planner agrees. What could not be
-// compared does not agree.
+// What the enumerator found, whether the planner agrees, and what WRITE and CHECK were asked.
 #[derive(Clone, Copy)]
 pub struct Comparison {
-    pub known: bool,
-    pub same: bool,
-    pub count: u32,
-    pub shortest: u32,
-    pub makespan: u32,
+    pub found: Enumerated,
+    pub agrees: bool,
     pub asked: Asked,
 }
 
-pub fn compared(file: &[u8]) -> Comparison {
-    let mut own = [0u32; CELLS];
-    let e = enumerator::enumerate(file, &mut own);
-    let known = is_known(e);
-    let asked = if known {
-        asked_of(file, e, &own)
-    } else {
-        crate::asked::none()
+// All calls on a file; None: it could not be compared.
+pub fn compared(file: &[u8]) -> Option<Comparison> {
+    let mut area = [0u32; CELLS];
+    let found = enumerator::enumerate(file, &mut area)?;
+    let rows = rows_of(found, &area)?;
+    let j = plain::judge(file);
+    let Judged::Accepted { plan, variants } = &j else {
+        return None;
     };
-    Comparison {
-        known,
-        same: known && (asked.same & agrees(file, e, &own)),
-        count: e.count,
-        shortest: e.shortest,
-        makespan: e.makespan,
+    let mut asked = Asked::none();
+    asked.add_test(read_agrees(file, &j));
+    crate::written::compare_variants(file, plan, *variants, &mut asked);
+    crate::checked::compare_rows(file, plan, *variants, rows, &mut asked);
+    Some(Comparison {
+        found,
+        agrees: asked.same && agrees(file, plan, found, rows),
         asked,
-    }
+    })
 }
 
-// READ, WRITE and CHECK on a file that may be refused, as `plain` judges it.
-pub fn file_compared(file: &[u8], j: Judged) -> Asked {
-    let t = with_same(crate::asked::none(), read_agrees(file, j));
-    crate::checked::file_compared(file, j, crate::written::compared(file, j, t))
+// READ, WRITE and CHECK on a file that may be refused, as `plain` judges it; None: it could not be compared.
+pub fn file_compared(file: &[u8], j: &Judged) -> Option<Asked> {
+    let mut asked = Asked::none();
+    asked.add_test(read_agrees(file, j));
+    match j {
+        Judged::Accepted { plan, variants } => {
+            crate::written::compare_variants(file, plan, *variants, &mut asked);
+            crate::checked::compare_first(file, plan, *variants, &mut asked);
+        }
+        Judged::Refused(own) => {
+            let own = Numbered::own(*own);
+            crate::written::compare_refused(file, own, &mut asked);
+            crate::checked::compare_refused(file, own, &mut asked);
+        }
+        Judged::Unknown => return None,
+    }
+    Some(asked)
 }

@@ -1,186 +1,93 @@
 // Whether CHECK's answers on a file are those of the plain test of a timetable.
-use crate::agreement::{MOST, is_refusal};
-use crate::asked::{Asked, with_same};
-use crate::rows::{cell, on, starts_at};
-use crate::timetables::{in_line, room, shifted, with_change};
-use enumerator::{ABSENT, Enumerated, RULES};
-use inspect::CheckAnswer;
-use plain::{ACTS, Judged, Plan, Variant};
+use crate::agreement::{MOST, NO_SUCH_VARIANT, Numbered};
+use crate::asked::Asked;
+use crate::rows::{starts_of, variant_of, width};
+use crate::timetables::{changes, in_line, room, shifted};
+use enumerator::{ABSENT, Rules};
+use plain::{ACTS, Plan};
 use timetable::Timetable;
 
-// A variant of a plan, with its number and the plan's number of activities.
+// A variant of a plan: its number and its rules.
 #[derive(Clone, Copy)]
-struct Case {
+struct Case<'a> {
     number: u32,
-    acts: usize,
-    chosen: Variant,
+    rules: Rules<'a>,
 }
 
-fn check_says(file: &[u8], v: u32, starts: [u32; ACTS], is_session: bool) -> bool {
+impl<'a> Case<'a> {
+    fn is_session(&self, starts: [u32; ACTS]) -> bool {
+        enumerator::is_session(&self.rules, &starts)
+    }
+
+    // One more timetable under the variant.
+    fn compare(&self, file: &[u8], starts: [u32; ACTS], asked: &mut Asked) {
+        let is_session = self.is_session(starts);
+        let answer = inspect::check(file, self.number, Timetable { starts });
+        asked.add_timetable(is_session, answer == Ok(is_session));
+    }
+
+    // The session with one start changed. One change is enough where the plan has no such activity.
+    fn compare_changes(&self, file: &[u8], starts: [u32; ACTS], asked: &mut Asked) {
+        for i in 0..ACTS {
+            let count = if i < self.rules.plan.acts { 4 } else { 1 };
+            for start in changes(starts[i]).iter().take(count) {
+                let mut changed = starts;
+                changed[i] = *start;
+                self.compare(file, changed, asked);
+            }
+        }
+    }
+
+    // A session of the variant: as it is, a tick later as a whole, as late as can be, and with one start changed.
+    fn compare_session(&self, file: &[u8], starts: [u32; ACTS], asked: &mut Asked) {
+        asked.add_test(self.is_session(starts));
+        self.compare(file, starts, asked);
+        self.compare(file, shifted(starts, 1), asked);
+        self.compare(file, shifted(starts, room(starts)), asked);
+        self.compare_changes(file, starts, asked);
+    }
+
+    // Each row: a session of its own variant, any timetable under another.
+    fn compare_rows(&self, file: &[u8], rows: &[u32], asked: &mut Asked) {
+        for row in rows.chunks_exact(width(self.rules.plan.acts)) {
+            let starts = starts_of(row);
+            if variant_of(row) == self.number {
+                self.compare_session(file, starts, asked);
+            } else {
+                self.compare(file, starts, asked);
+            }
+        }
+    }
+}
+
+fn refuses(file: &[u8], v: u32, starts: [u32; ACTS], own: Numbered) -> bool {
     match inspect::check(file, v, Timetable { starts }) {
-        CheckAnswer::Checked(yes) => yes == is_session,
-        CheckAnswer::Refused(_) => false,
+        Ok(_) => false,
+        Err(refusal) => Numbered::of(refusal) == own,
     }
-}
-
-fn refuses(file: &[u8], v: u32, starts: [u32; ACTS], number: u64, figure: u64) -> bool {
-    match inspect::check(file, v, Timetable { starts }) {
-        CheckAnswer::Checked(_) => false,
-        CheckAnswer::Refused(r) => is_refusal(r, number, figure),
-    }
-}
-
-// One more timetable under a variant.
-fn with_timetable(
-    file: &[u8],
-    rules: &[u32; RULES],
-    c: Case,
-    starts: [u32; ACTS],
-    t: Asked,
-) -> Asked {
-    let chosen = c.chosen;
-    let is_session = enumerator::is_session(rules, chosen, &starts, c.acts);
-    let is_same = check_says(file, c.number, starts, is_session);
-    crate::asked::with_timetable(t, is_session, is_same)
-}
-
-// One change is enough where the plan has no such activity.
-fn changes(i: usize, acts: usize) -> u32 {
-    if i < acts { 4 } else { 1 }
-}
-
-// The changes of the start of one number.
-fn over_changes(
-    file: &[u8],
-    rules: &[u32; RULES],
-    c: Case,
-    starts: [u32; ACTS],
-    i: usize,
-    from: Asked,
-) -> Asked {
-    let mut t = from;
-    for kind in 0..changes(i, c.acts) {
-        t = with_timetable(file, rules, c, with_change(starts, i, kind), t);
-    }
-    t
-}
-
-fn over_numbers(
-    file: &[u8],
-    rules: &[u32; RULES],
-    c: Case,
-    starts: [u32; ACTS],
-    from: Asked,
-) -> Asked {
-    let mut t = from;
-    for i in 0..ACTS {
-        t = over_changes(file, rules, c, starts, i, t);
-    }
-    t
-}
-
-// A session of the variant: as it is, a tick later as a whole, as late as can be, and with one start changed.
-fn with_session(
-    file: &[u8],
-    rules: &[u32; RULES],
-    c: Case,
-    starts: [u32; ACTS],
-    t: Asked,
-) -> Asked {
-    let chosen = c.chosen;
-    let is_session = enumerator::is_session(rules, chosen, &starts, c.acts);
-    let mut u = with_timetable(file, rules, c, starts, with_same(t, is_session));
-    u = with_timetable(file, rules, c, shifted(starts, 1), u);
-    u = with_timetable(file, rules, c, shifted(starts, room(starts)), u);
-    over_numbers(file, rules, c, starts, u)
-}
-
-// The row at a place: a session of its own variant, any timetable under another.
-fn with_row(file: &[u8], rules: &[u32; RULES], c: Case, own: &[u32], at: usize, t: Asked) -> Asked {
-    let starts = starts_at(own, on(at, 1), c.acts);
-    if cell(own, at) == c.number {
-        return with_session(file, rules, c, starts, t);
-    }
-    with_timetable(file, rules, c, starts, t)
-}
-
-fn over_rows(
-    file: &[u8],
-    rules: &[u32; RULES],
-    c: Case,
-    own: &[u32],
-    rows: u32,
-    from: Asked,
-) -> Asked {
-    let mut t = from;
-    let mut at = 0usize;
-    for k in 0..rows {
-        t = with_row(file, rules, c, own, at, t);
-        at = on(at, on(1, c.acts));
-    }
-    t
-}
-
-fn with_variant(file: &[u8], p: Plan, c: Case, own: &[u32], rows: u32, t: Asked) -> Asked {
-    let chosen = c.chosen;
-    let rules = enumerator::rules_of(p, chosen);
-    over_rows(file, &rules, c, own, rows, t)
-}
-
-fn over_variants(
-    file: &[u8],
-    p: Plan,
-    variants: u32,
-    own: &[u32],
-    rows: u32,
-    from: Asked,
-) -> Asked {
-    let mut t = from;
-    let mut picks = plain::first();
-    for number in 0..variants {
-        let chosen = plain::picked(p, picks);
-        let c = Case {
-            number,
-            acts: p.acts,
-            chosen,
-        };
-        t = with_variant(file, p, c, own, rows, t);
-        picks = plain::next(picks, chosen, p);
-    }
-    t
 }
 
 // Every row that the enumerator found, under every variant and the first number past them.
-pub fn rows_compared(file: &[u8], j: Judged, e: Enumerated, own: &[u32], t: Asked) -> Asked {
-    let p = plain::read(file);
-    let starts = starts_at(own, 1, p.acts);
-    let u = with_same(t, refuses(file, j.variants, starts, 9, 0));
-    over_variants(file, p, j.variants, own, e.count, u)
-}
-
-// The first variant, with its activities one after the other.
-fn first_compared(file: &[u8], p: Plan, t: Asked) -> Asked {
-    let chosen = plain::picked(p, plain::first());
-    let c = Case {
-        number: 0,
-        acts: p.acts,
-        chosen,
-    };
-    let rules = enumerator::rules_of(p, chosen);
-    with_session(file, &rules, c, in_line(p, chosen), t)
-}
-
-// A session of the first variant and the first number past the variants; of a file that is not accepted the refusal,
-// whatever the number.
-pub fn file_compared(file: &[u8], j: Judged, t: Asked) -> Asked {
-    let empty = [ABSENT; ACTS];
-    if j.number != 0 {
-        let is_refused = refuses(file, 0, empty, j.number, j.figure);
-        return with_same(
-            t,
-            is_refused & refuses(file, MOST, empty, j.number, j.figure),
-        );
+pub fn compare_rows(file: &[u8], p: &Plan, variants: u32, rows: &[u32], asked: &mut Asked) {
+    let first = rows.get(..width(p.acts)).unwrap_or(&[]);
+    asked.add_test(refuses(file, variants, starts_of(first), NO_SUCH_VARIANT));
+    for (number, chosen) in (0..variants).zip(p.variants()) {
+        let rules = enumerator::rules_of(p, &chosen);
+        Case { number, rules }.compare_rows(file, rows, asked);
     }
-    let u = with_same(t, refuses(file, j.variants, empty, 9, 0));
-    first_compared(file, plain::read(file), u)
+}
+
+// A session of the first variant, with its activities one after the other, and the first number past the variants.
+pub fn compare_first(file: &[u8], p: &Plan, variants: u32, asked: &mut Asked) {
+    asked.add_test(refuses(file, variants, [ABSENT; ACTS], NO_SUCH_VARIANT));
+    if let Some(chosen) = p.variants().next() {
+        let rules = enumerator::rules_of(p, &chosen);
+        Case { number: 0, rules }.compare_session(file, in_line(p, &chosen), asked);
+    }
+}
+
+// The refusal of a file that is not accepted, whatever the number.
+pub fn compare_refused(file: &[u8], own: Numbered, asked: &mut Asked) {
+    let empty = [ABSENT; ACTS];
+    asked.add_test(refuses(file, 0, empty, own) && refuses(file, MOST, empty, own));
 }

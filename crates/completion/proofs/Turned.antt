@@ -5,7 +5,7 @@ use native.Mathlib.Omega.{arith}
 use mathlib.Core.Bool.{Bool, true, false, not, ◌&&◌, ◌||◌, or-true}
 use mathlib.Core.List.{List}
 use mathlib.Core.Logic.{◌≢◌, ⊎_elim, by_cases}
-use mathlib.Core.Path.{◌≡◌, sym, ap, ◌∙◌, subst, subst₂}
+use mathlib.Core.Path.{◌≡◌, refl, sym, ap, ◌∙◌, subst, subst₂}
 use lib.Bits.{bit_and, bit_or, or_lt}
 use lib.Dec.{eqb}
 use lib.ListN.{get_or, set}
@@ -299,29 +299,36 @@ module _ (t : List ℕ) (given : Instance t) (l : Line) (w : List ℕ) (d : Diag
             ripe = ripe_next;
           }
 
--- What a turn needs of the activity that it freezes.
-pub record Picked (t w : List ℕ) (rest i : ℕ) : Type 0 where
-  pub low : i < most
-  pub own : i < acts_of t
-  pub there : has rest i ≡ true
-  pub some : 0 < rest
-  pub early : finish_at t w i ≤ latest_possible
+-- At the head of the loop, whatever diagram the line shows; and the lowest of what is open.
+pub record Turning (t : List ℕ) (l : Line) (w w' : List ℕ) (last rest cands : ℕ) : Type 0 where
+  pub whichever : (d : Diagram) → Position t l w d → Completing t l w d w' last rest cands
+  pub low : cands ≢ 0 → lowest_of cands < most
+  pub own : cands ≢ 0 → lowest_of cands < acts_of t
+  pub there : cands ≢ 0 → has rest (lowest_of cands) ≡ true
+  pub some : cands ≢ 0 → 0 < rest
+  pub early : cands ≢ 0 → finish_at t w' (lowest_of cands) ≤ latest_possible
 
--- The same by the numbers that the code has.
+pub turning : {t : List ℕ} {l : Line} {w w' : List ℕ} {last rest cands : ℕ} → Instance t → Uncontested t l.left
+    → ((d : Diagram) × Position t l w d)
+    → ((d : Diagram) → Position t l w d → Completing t l w d w' last rest cands)
+    → Turning t l w w' last rest cands
+turning {t} {l} {w} {cands = cands} given apart (d, at) all =
+    let h = all d at in
+    let chosen : cands ≢ 0 → has cands (lowest_of cands) ≡ true =
+    λ more. lowest_has cands (lowest_of cands) h.ripe.low more refl in
+    record {
+      whichever = all;
+      low = λ more. low_i t given l w d at apart h (lowest_of cands) (chosen more);
+      own = λ more. own_i t given l w d at apart h (lowest_of cands) (chosen more);
+      there = λ more. rests_i t given l w d at apart h (lowest_of cands) (chosen more);
+      some = λ more. some_left t given l w d at apart h (lowest_of cands) (chosen more);
+      early = λ more. end_early t given l w d at apart h (lowest_of cands) (chosen more);
+    }
+
+-- A turn by the numbers that the code has.
 module _ (t : List ℕ) (given : Instance t) (l : Line) (w : List ℕ) (d : Diagram) (at : Position t l w d)
     (apart : Uncontested t l.left) {w' : List ℕ} {last rest cands : ℕ} (h : Completing t l w d w' last rest cands)
     {i : ℕ} (more : cands ≢ 0) (lowest : i ≡ lowest_of cands) where
-  pub picked : Picked t w' rest i
-  picked =
-      let chosen : has cands i ≡ true = lowest_has cands i h.ripe.low more lowest in
-      record {
-        low = low_i t given l w d at apart h i chosen;
-        own = own_i t given l w d at apart h i chosen;
-        there = rests_i t given l w d at apart h i chosen;
-        some = some_left t given l w d at apart h i chosen;
-        early = end_early t given l w d at apart h i chosen;
-      }
-
   pub completing_on : {few soon last' left next cands' : ℕ} {w₁ w₂ : List ℕ} → soon ≡ soon_at t w' i
       → w₁ ≡ set w' i (soon + duration_at t i)
       → last' ≡ max last (soon + duration_at t i)

@@ -13,24 +13,22 @@ ghost use Rattle.unbranched.specs.Position.{Position, Given, Explored};
 ghost use Rattle.completion.specs.Rest.{Uncontested, Readies};
 
 use instance::{LINK, NEAR, NEXT, PREDS, Table};
-use profile::{Work, later, latest, store_end, store_ready};
-use sets::{after_lowest, lowest};
+use profile::{Work, latest, store_end, store_ready};
+use sets::{activities, after_lowest, lowest};
 use steps::{Line, loose, soon_of, waiting};
 use tally::{Cells, leave, leave_new};
 
 // Those of `new` that have no predecessor left, which are made ready: from the latest end of their nearest predecessors
 // on, and not before the tick.
+#[tactic(auto, using(sets::proofs::Members::lowest_low))]
 fn make_ready(table: &Table, work: &mut Work, tick: u32, left: u32, new: u32) -> u32
     requires { (new < 2 ^ most) × (tick ≤ latest_possible) × Linked table.now × Timed work.old }
     ensures { Readies table.now tick left new work.old work.new result }
 {
     let mut ready = 0;
-    let mut rest = new;
-    while rest != 0 {
-        let j = lowest(rest);
-        rest = after_lowest(rest);
+    for j in activities(new) {
         if !sets::meets(table[PREDS + j], left) {
-            let from = later(latest(work, table[NEAR + j]), tick);
+            let from = latest(work, table[NEAR + j]).max(tick);
             store_ready(work, j, from);
             ready = sets::union(ready, sets::single(j));
         }
@@ -62,7 +60,7 @@ pub fn complete(
         let i = lowest(cands);
         let end = soon_of(table, work, i) + table[i];
         store_end(work, i, end);
-        last = later(last, end);
+        last = last.max(end);
         rest = sets::without(rest, i);
         let next = make_ready(table, work, line.tick, rest, table[NEXT + i]);
         cands = sets::union(after_lowest(cands), next);

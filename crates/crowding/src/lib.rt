@@ -9,7 +9,7 @@ ghost use Rattle.instance.specs.Table.{acts_of};
 ghost use Rattle.crowding.specs.Crowd.{crowd, Acts, Fewer};
 
 use instance::{COMPONENT, TIGHT, Table};
-use sets::{after_lowest, lowest};
+use sets::{activities, lowest};
 
 // Of a component in which two can run together, or of one that has been seen?
 fn is_extra(tight: u32, seen: u32, i: usize, own: usize) -> bool
@@ -26,16 +26,12 @@ pub fn crowding(table: &Table, set: u32) -> u32
 {
     let mut many = 0;
     let mut seen = 0;
-    let mut rest = set;
-    while rest != 0 {
-        let i = lowest(rest);
-        rest = after_lowest(rest);
+    for i in activities(set) {
         let own = lowest(table[COMPONENT + i]);
-        let again = is_extra(table[TIGHT], seen, i, own);
-        seen = sets::union(seen, sets::single(own));
-        if again {
+        if is_extra(table[TIGHT], seen, i, own) {
             many += 1;
         }
+        seen = sets::union(seen, sets::single(own));
     }
     many
 }

@@ -1,33 +1,35 @@
 // The rows of the active sessions: the variant, then the start of each activity.
+
 use plain::ACTS;
 
-// Past the end of the area nothing is stored.
-fn put(area: &mut [u32], at: usize, cell: u32) -> usize {
-    if area.len() <= at {
-        return std::num::wrapping_add_usize(at, 1);
-    }
-    area[at] = cell;
-    at + 1
+// An area that is written from the front. Past its end nothing is stored.
+#[derive(Drop)]
+pub struct Rows<'a> {
+    area: &'a mut [u32],
+    cells: usize,
 }
 
-fn put_start(area: &mut [u32], at: usize, starts: &[u32; ACTS], i: usize) -> usize {
-    if ACTS <= i {
-        return at;
+impl<'a> Rows<'a> {
+    pub fn new(area: &'a mut [u32]) -> Rows<'a> {
+        Rows { area, cells: 0 }
     }
-    put(area, at, starts[i])
-}
 
-// Returns the place after the row.
-pub fn put_row(
-    area: &mut [u32],
-    from: usize,
-    variant: u32,
-    starts: &[u32; ACTS],
-    acts: usize,
-) -> usize {
-    let mut at = put(area, from, variant);
-    for i in 0..acts {
-        at = put_start(area, at, starts, i);
+    // How many cells the rows take.
+    pub fn cells(&self) -> usize {
+        self.cells
     }
-    at
+
+    fn put(&mut self, cell: u32) {
+        if let Some(place) = self.area.get_mut(self.cells) {
+            *place = cell;
+        }
+        self.cells = self.cells.saturating_add(1);
+    }
+
+    pub fn put_row(&mut self, variant: u32, starts: &[u32; ACTS], acts: usize) {
+        self.put(variant);
+        for start in starts.iter().take(acts) {
+            self.put(*start);
+        }
+    }
 }

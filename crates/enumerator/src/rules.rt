@@ -1,109 +1,71 @@
-// The rules of a variant, as one table: how each two activities stand to each other, in sequence or free; the units of
-// each resource that each activity holds; and the units that each resource has.
-use plain::{ACTS, COUNTS, NODES, NONE, Plan, RESOURCES, Variant};
+// The rules of a variant: its plan, and how each two of its activities stand to each other.
+use plain::{ACTS, Kind, NODES, Plan, Variant};
+use std::iter;
 
-// Where the units of the activities stand, and the capacities.
-const UNITS: usize = ACTS * ACTS;
+#[derive(Clone, Copy, PartialEq, Eq, Debug)]
+pub enum Relation {
+    Free,
+    Before,
+    After,
+}
 
-const CAPACITIES: usize = UNITS + COUNTS;
+// How each activity stands to each other one: the first stands so to the second.
+#[derive(Clone, Copy)]
+pub struct Relations {
+    pub of: [[Relation; ACTS]; ACTS],
+}
 
-pub const RULES: usize = CAPACITIES + RESOURCES;
-
-const FREE: u32 = 0;
-
-pub const BEFORE: u32 = 1;
-
-pub const AFTER: u32 = 2;
+#[derive(Clone, Copy)]
+pub struct Rules<'a> {
+    pub plan: &'a Plan,
+    pub variant: &'a Variant,
+    pub relations: Relations,
+}
 
 // The node where a node and an earlier one part: the nearest above the later that does not come after the earlier.
-fn parting(p: Plan, earlier: usize, later: usize) -> usize {
-    let mut node = later;
-    for i in 0..NODES {
-        if node < NODES {
-            if earlier < node {
-                node = p.parent[node];
-            }
-        }
-    }
-    node
+fn parting(p: &Plan, earlier: usize, later: usize) -> Option<usize> {
+    let mut above = iter::successors(Some(later), |&i| p.node.get(i)?.parent).take(NODES + 1);
+    above.find(|&i| i <= earlier)
 }
 
 // Do two nodes part at an s?
-fn in_sequence(p: Plan, earlier: usize, later: usize) -> bool {
-    let node = parting(p, earlier, later);
-    if NODES <= node {
-        return false;
-    }
-    p.letter[node] == b's'
+fn in_sequence(p: &Plan, earlier: usize, later: usize) -> bool {
+    let parting = parting(p, earlier, later).and_then(|i| p.node.get(i));
+    parting.is_some_and(|node| node.kind == Kind::Seq)
 }
 
-fn related(p: Plan, v: Variant, i: usize, j: usize) -> u32 {
-    if ACTS <= i {
-        return FREE;
+// How two activities stand to each other, by their nodes.
+fn related(p: &Plan, first: Option<usize>, second: Option<usize>) -> Relation {
+    let (Some(first), Some(second)) = (first, second) else {
+        return Relation::Free;
+    };
+    if first < second && in_sequence(p, first, second) {
+        return Relation::Before;
     }
-    if ACTS <= j {
-        return FREE;
+    if second < first && in_sequence(p, second, first) {
+        return Relation::After;
     }
-    let a = v.node[i];
-    let b = v.node[j];
-    if (a == NONE) | (b == NONE) | (i == j) {
-        return FREE;
-    }
-    if (a < b) & in_sequence(p, a, b) {
-        return BEFORE;
-    }
-    if (b < a) & in_sequence(p, b, a) {
-        return AFTER;
-    }
-    FREE
+    Relation::Free
 }
 
-fn rule(p: Plan, v: Variant, at: usize) -> u32 {
-    if at < UNITS {
-        return related(p, v, at / ACTS, at % ACTS);
+impl Relations {
+    fn new(p: &Plan, v: &Variant) -> Relations {
+        let mut of = [[Relation::Free; ACTS]; ACTS];
+        for (row, first) in of.iter_mut().zip(&v.node) {
+            for (relation, second) in row.iter_mut().zip(&v.node) {
+                *relation = related(p, *first, *second);
+            }
+        }
+        Relations { of }
     }
-    if at < CAPACITIES {
-        return p.units[at - UNITS];
-    }
-    if at < RULES {
-        return p.capacity[at - CAPACITIES];
-    }
-    0
 }
 
-pub fn rules(p: Plan, v: Variant) -> [u32; RULES] {
-    let mut all = [0; RULES];
-    for at in 0..RULES {
-        all[at] = rule(p, v, at);
+impl<'a> Rules<'a> {
+    pub fn new(plan: &'a Plan, variant: &'a Variant) -> Rules<'a> {
+        Rules {
+            plan,
+            variant,
+            relations: Relations::new(plan, variant),
+        }
     }
-    all
-}
-
-// How activity i stands to activity j.
-pub fn relation(rules: &[u32; RULES], i: usize, j: usize) -> u32 {
-    if ACTS <= i {
-        return FREE;
-    }
-    if ACTS <= j {
-        return FREE;
-    }
-    rules[i * ACTS + j]
-}
-
-// The units that an activity holds of a resource.
-pub fn units(rules: &[u32; RULES], i: usize, resource: usize) -> u32 {
-    if ACTS <= i {
-        return 0;
-    }
-    if RESOURCES <= resource {
-        return 0;
-    }
-    rules[UNITS + i * RESOURCES + resource]
-}
-
-pub fn capacity(rules: &[u32; RULES], resource: usize) -> u32 {
-    if RESOURCES <= resource {
-        return 0;
-    }
-    rules[CAPACITIES + resource]
 }

@@ -3,35 +3,29 @@
 // each start of an active session is a sum of durations of other activities, and every active session is tried; where
 // all starts are multiples, an activity that can start sooner can do so at a multiple; and no feasible session is
 // shorter than every active one.
-use plain::ACTS;
+use plain::{Plan, Variant};
 
 // The greatest common divisor of two numbers, by Euclid.
 fn divisor(a: u32, b: u32) -> u32 {
     let mut greater = a;
     let mut less = b;
     while less != 0 {
-        let rest = greater % less;
-        greater = less;
-        less = rest;
+        (greater, less) = (less, greater % less);
     }
     greater
 }
 
-pub fn unit(duration: &[u32; ACTS]) -> u32 {
-    let mut unit = 0u32;
-    for i in 0..ACTS {
-        unit = divisor(unit, duration[i]);
+pub fn unit(p: &Plan, v: &Variant) -> u32 {
+    let mut unit = 0;
+    for (activity, node) in p.activity.iter().zip(&v.node) {
+        if node.is_some() {
+            unit = divisor(unit, activity.duration);
+        }
     }
     unit
 }
 
-// How many multiples of the unit are below a tick.
+// How many multiples of the unit are below a tick; of 0 there are none.
 pub fn multiples(unit: u32, tick: u32) -> u32 {
-    if unit == 0 {
-        return 0;
-    }
-    if tick % unit == 0 {
-        return tick / unit;
-    }
-    std::num::wrapping_add_u32(tick / unit, 1)
+    if unit == 0 { 0 } else { tick.div_ceil(unit) }
 }

@@ -10,7 +10,8 @@ use mathlib.Core.Path.{◌≡◌, refl, sym, subst}
 use lib.ListN.{length, replicate}
 use Rattle.plan.specs.Limits.{longest_of, last_edition, says_units, most_units, most_resources, most_acts, longest_duration}
 use Rattle.plan.specs.Limits.{most_children, is_edition, counts_form}
-use Rattle.plan.specs.Plan.{activity, xor, Plan, one_unit, is_plan}
+use Rattle.plan.specs.Plan.{Plan, one_unit, is_plan}
+use Rattle.plan.specs.declared.Node.TheVariants.{Act, Xor}
 use Rattle.format.specs.Lines.{numeral, filled}
 use Rattle.format.specs.Text.{capacity_lines, act_lines, node_lines, text}
 use Rattle.format.proofs.Tests.{between_facts}
@@ -28,7 +29,7 @@ longest_plan edition =
                 cond (says_units edition) (replicate most_resources (most_units edition))
                 (one_unit most_resources (most_resources - 1));
           });
-      nodes = xor most_children ∷ replicate most_children (activity (most_acts - 1));
+      nodes = Xor most_children ∷ replicate most_children (Act (most_acts - 1));
     }
 
 -- What holds of both editions holds of each.

@@ -8,7 +8,8 @@ use lib.ListN.{length, get_or, replicate}
 use Rattle.plan.specs.Limits.{most_resources, last_edition, says_units, most_units, most_acts, most_nodes, is_edition}
 use Rattle.plan.specs.Limits.{is_resource_count, is_capacity, is_act_count, is_node_count, edition_form, resources_form}
 use Rattle.plan.specs.Limits.{capacity_form, acts_form, act_form, nodes_form, node_form}
-use Rattle.plan.specs.Plan.{Activity, Node, act_values, activity_of, letter_of, value_of, is_letter, is_activity, is_within}
+use Rattle.plan.specs.Plan.{Activity, act_values, activity_of, letter_of, value_of, is_letter, is_activity, is_within}
+use Rattle.plan.specs.declared.Node.{Node}
 use Rattle.plan.specs.Plan.{is_node}
 use Rattle.plan.specs.declared.Refusal.TheVariants.{Range, GroupOfOne, OverCapacity}
 use Rattle.plan.proofs.Nodes.{node_number}

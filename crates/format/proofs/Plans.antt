@@ -9,7 +9,9 @@ use lib.ListN.{length}
 use Rattle.plan.specs.Limits.{says_units, most_acts, longest_duration, fewest_children, most_children, is_edition}
 use Rattle.plan.specs.Limits.{is_resource_count, is_capacity, is_unit_count, is_act_count, is_duration, is_node_count}
 use Rattle.plan.specs.Limits.{is_child_count}
-use Rattle.plan.specs.Plan.{Activity, Node, activity, seq, pll, xor, Plan, one_unit, own_resource, letter_of, value_of}
+use Rattle.plan.specs.Plan.{Activity, Plan, one_unit, own_resource, letter_of, value_of}
+use Rattle.plan.specs.declared.Node.{Node}
+use Rattle.plan.specs.declared.Node.TheVariants.{Act, Seq, Pll, Xor}
 use Rattle.plan.specs.Plan.{is_letter, node_of, are_units, is_activity, is_within, is_node, is_group_of_one, is_plan}
 use Rattle.format.specs.Parse.{is_ranged, is_plural}
 use Rattle.base.specs.Lists.{every, same_row}
@@ -104,26 +106,26 @@ module _ (edition resources : ℕ) (a : Activity) (e : is_activity edition resou
     units_own = same_row_lem a.units (one_unit resources own) (and_right (ltb own resources) _ one)
 
 pub number_most : (n : ℕ) (m : Node) → n ≤ most_acts → is_node n m ≡ true → value_of m ≤ most_children
-number_most n (activity i) h e = omega (arith, ltb-true i n e)
-number_most n (seq k) h e = (between_facts fewest_children most_children k e).1
-number_most n (pll k) h e = (between_facts fewest_children most_children k e).1
-number_most n (xor k) h e = (between_facts fewest_children most_children k e).1
+number_most n (Act i) h e = omega (arith, ltb-true i n e)
+number_most n (Seq k) h e = (between_facts fewest_children most_children k e).1
+number_most n (Pll k) h e = (between_facts fewest_children most_children k e).1
+number_most n (Xor k) h e = (between_facts fewest_children most_children k e).1
 
 -- A node in range is no group of one, and what passes both tests of its line is in range.
 one_child : (m : Node) → is_group_of_one m ≡ true → value_of m ≡ 1
-one_child (activity i) e = absurd (false≢true e)
-one_child (seq k) e = eqb-true k 1 e
-one_child (pll k) e = eqb-true k 1 e
-one_child (xor k) e = eqb-true k 1 e
+one_child (Act i) e = absurd (false≢true e)
+one_child (Seq k) e = eqb-true k 1 e
+one_child (Pll k) e = eqb-true k 1 e
+one_child (Xor k) e = eqb-true k 1 e
 
 plural_count : (k : ℕ) → is_child_count k ≡ true → not (eqb k 1) ≡ true
 plural_count k e = ap not (ne_eqb k 1 (λ one. omega (arith, between_facts fewest_children most_children k e)))
 
 pub node_plural : (n : ℕ) (m : Node) → is_node n m ≡ true → is_plural m ≡ true
-node_plural n (activity i) e = refl
-node_plural n (seq k) e = plural_count k e
-node_plural n (pll k) e = plural_count k e
-node_plural n (xor k) e = plural_count k e
+node_plural n (Act i) e = refl
+node_plural n (Seq k) e = plural_count k e
+node_plural n (Pll k) e = plural_count k e
+node_plural n (Xor k) e = plural_count k e
 
 pub node_ranged : (n : ℕ) (m : Node) → is_node n m ≡ true → is_ranged n m ≡ true
 node_ranged n m e = ap (λ (b : Bool). b || is_group_of_one m) e
@@ -142,16 +144,16 @@ ranged_most n m h e = ranged_cases n m e (number_most n m h) (λ one. omega (ari
 
 -- A node is its letter and its number.
 pub node_same : (n : Node) → node_of (letter_of n) (value_of n) ≡ n
-node_same (activity i) = refl
-node_same (seq k) = refl
-node_same (pll k) = refl
-node_same (xor k) = refl
+node_same (Act i) = refl
+node_same (Seq k) = refl
+node_same (Pll k) = refl
+node_same (Xor k) = refl
 
 pub letter_is : (n : Node) → is_letter (letter_of n) ≡ true
-letter_is (activity i) = refl
-letter_is (seq k) = refl
-letter_is (pll k) = refl
-letter_is (xor k) = refl
+letter_is (Act i) = refl
+letter_is (Seq k) = refl
+letter_is (Pll k) = refl
+letter_is (Xor k) = refl
 
 -- The four letters.
 pub data Letter : ℕ → Type 0 where

@@ -11,7 +11,8 @@ use Rattle.plan.specs.Limits.{bytes, between, longest_of, longest, last_edition,
 use Rattle.plan.specs.Limits.{most_resources, most_acts, longest_duration, most_nodes, most_children, is_capacity}
 use Rattle.plan.specs.Limits.{is_unit_count, edition_form, resources_form, capacity_form, acts_form, counts_form, nodes_form}
 use Rattle.plan.specs.Limits.{node_form}
-use Rattle.plan.specs.Plan.{Activity, Node, Plan, own_resource, letter_of, value_of, is_activity, is_node, is_plan}
+use Rattle.plan.specs.Plan.{Activity, Plan, own_resource, letter_of, value_of, is_activity, is_node, is_plan}
+use Rattle.plan.specs.declared.Node.{Node}
 use Rattle.base.specs.Lists.{every}
 use Rattle.format.specs.Lines.{numeral, filled}
 use Rattle.format.specs.Text.{text}

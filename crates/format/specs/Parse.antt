@@ -5,7 +5,8 @@ use Rattle.std.specs.Prelude.{ℕ, zero, suc, ◌+◌, Bool, true, false, not, �
 use Rattle.std.proofs.Math.Option.{none, some}
 use Rattle.plan.specs.Limits.{longest, says_units, is_edition, is_resource_count, is_capacity, is_act_count, is_node_count}
 use Rattle.plan.specs.Limits.{edition_form, resources_form, capacity_form, acts_form, act_form, nodes_form, node_form}
-use Rattle.plan.specs.Plan.{Activity, Node, Plan, activity_of, node_of, is_activity, is_within, is_node, is_group_of_one}
+use Rattle.plan.specs.Plan.{Activity, Plan, activity_of, node_of, is_activity, is_within, is_node, is_group_of_one}
+use Rattle.plan.specs.declared.Node.{Node}
 use Rattle.plan.specs.declared.Refusal.{Refusal}
 use Rattle.plan.specs.declared.Refusal.TheVariants.{Length, Form, Range, GroupOfOne, OverCapacity}
 use Rattle.format.specs.Lines.{matched}

@@ -2,7 +2,8 @@
 use Rattle.std.specs.Prelude.{ℕ, cond, List, [], ◌∷◌, ◌++◌, length}
 use Rattle.plan.specs.Limits.{says_units, edition_form, resources_form, capacity_form, acts_form, act_form, nodes_form}
 use Rattle.plan.specs.Limits.{node_form}
-use Rattle.plan.specs.Plan.{Activity, Node, Plan, act_values, letter_of, value_of}
+use Rattle.plan.specs.Plan.{Activity, Plan, act_values, letter_of, value_of}
+use Rattle.plan.specs.declared.Node.{Node}
 use Rattle.format.specs.Lines.{filled}
 
 unfoldable pub capacity_lines : List ℕ → List ℕ

@@ -3,7 +3,7 @@
 ghost use Rattle.generator.specs.Text.{Counts};
 
 use crate::random::{below, drawn, seeded};
-use crate::text::put;
+use crate::text::within;
 
 fn letter(r: u8) -> u8 {
     match r {
@@ -18,60 +18,41 @@ fn letter(r: u8) -> u8 {
 // too.
 fn instead(b: u8, state: u64) -> u8 {
     let r = below(state, 10);
-    if (b'0' <= b) & (b <= b'9') {
-        return r + b'0';
+    match b {
+        b'0'..=b'9' => r + b'0',
+        b'a' | b's' | b'p' | b'x' if r < 8 => letter(r / 2),
+        _ => below(state << 8, 255),
     }
-    if ((b == b'a') | (b == b's') | (b == b'p') | (b == b'x')) & (r < 8) {
-        return letter(r / 2);
-    }
-    below(state << 8, 255)
 }
 
 // A place in the first n bytes; 0 where there are none.
 fn place(state: u64, n: usize) -> usize {
-    if n == 0 { 0 } else { (state >> 8) as usize % n }
+    ((state >> 8) as usize).checked_rem(n).unwrap_or(0)
 }
 
-fn byte(file: &[u8], at: usize) -> u8 {
-    if at < file.len() { file[at] } else { 0 }
-}
-
-// The byte after a place, moved to it.
-fn step(file: &mut [u8], at: usize) {
-    if file.len() <= at {
-        return;
-    }
-    if file.len() - at < 2 {
-        return;
-    }
-    file[at] = file[at + 1];
-}
-
-// The bytes after a place, each moved to the place before it.
+// The byte at a place put behind all others.
 fn drop(file: &mut [u8], at: usize) {
-    for i in at..file.len() {
-        step(file, i);
+    if at < file.len() {
+        file[at..].rotate_left(1);
     }
 }
 
-// Puts a byte at a place, and returns the one that stood there.
-fn exchange(file: &mut [u8], at: usize, b: u8) -> u8 {
-    if file.len() <= at {
-        return b;
-    }
-    let old = file[at];
-    file[at] = b;
-    old
-}
-
-// A byte put at a place, the others from there on each moved to the next place.
+// A byte put before a place, in place of the last of all.
 fn insert(file: &mut [u8], at: usize, b: u8) {
-    let mut moved = b;
-    for i in at..file.len() {
-        moved = exchange(file, i, moved);
+    if at < file.len() {
+        file[at..].rotate_right(1);
+        file[at] = b;
     }
 }
 
+// Another byte at a place.
+fn change(file: &mut [u8], at: usize, state: u64) {
+    if let Some(b) = file.get_mut(at) {
+        *b = instead(*b, state);
+    }
+}
+
+// Which fault it is, is a matter of chance, hence a number.
 fn faulted(seed: u64, file: &mut [u8], n: usize) -> usize {
     let first = drawn(drawn(seeded(seed)));
     let second = drawn(first);
@@ -80,24 +61,27 @@ fn faulted(seed: u64, file: &mut [u8], n: usize) -> usize {
     if below(fourth, 64) == 0 {
         return crate::choices::multiply(fourth, file, n);
     }
-    let kind = below(first, 7);
     let at = place(second, n);
-    if kind < 3 {
-        put(file, at, instead(byte(file, at), third));
-        return n;
+    match below(first, 7) {
+        0..=2 => {
+            change(file, at, third);
+            n
+        }
+        3 => {
+            drop(file, at);
+            n.saturating_sub(1)
+        }
+        4 => {
+            let b = file.get(at).copied().unwrap_or(0);
+            insert(file, at, instead(b, third));
+            n.saturating_add(1)
+        }
+        5 => at,
+        _ => {
+            insert(file, n, instead(0, third));
+            n.saturating_add(1)
+        }
     }
-    if kind == 3 {
-        drop(file, at);
-        return if n == 0 { 0 } else { n - 1 };
-    }
-    if kind == 4 {
-        insert(file, at, instead(byte(file, at), third));
-        return std::num::wrapping_add_usize(n, 1);
-    }
-    if kind == 5 {
-        return at;
-    }
-    put(file, n, instead(0, third))
 }
 
 // Puts a fault, made of a seed, into the plan file that is the area's first n bytes, and returns its length then.
@@ -105,5 +89,5 @@ pub fn damage(seed: u64, file: &mut [u8], n: usize) -> usize
     ensures { Counts result file.new }
 {
     let length = faulted(seed, file, n);
-    crate::text::within(file, length)
+    within(file, length)
 }

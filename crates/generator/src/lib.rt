@@ -13,39 +13,42 @@ mod tree;
 
 pub use fault::damage;
 use random::{below, drawn};
+use text::{Writer, within};
 use tree::Term;
 
 // The resources of a plan: one, a few, or the most there may be.
 fn resources(state: u64) -> u8 {
     let r = state % 4;
-    if r == 3 { 16 } else { (r + 1) as u8 }
+    if r == 3 { 16 } else { r as u8 + 1 }
 }
 
 // The longest duration is shorter where there are more activities.
 fn longest(acts: u8) -> u8
     ensures { result ≤ 4 }
 {
-    if acts <= 3 {
-        return 4;
+    match acts {
+        0..=3 => 4,
+        4..=5 => 3,
+        _ => 2,
     }
-    if acts <= 5 { 3 } else { 2 }
 }
 
 // Some plans have equal durations.
 fn duration(state: u64, first: u64, acts: u8) -> u8 {
     let most = longest(acts);
-    if first % 3 == 0 {
-        return below(first / 3, most) + 1;
-    }
-    below(state, most) + 1
+    let drawn_from = if first % 3 == 0 { first / 3 } else { state };
+    below(drawn_from, most) + 1
 }
 
 // Every other plan of four activities or more has soak tests, of 10000 ticks for a duration of 1, else of 20000.
 fn soaked(duration: u8, seed: u64, acts: u8) -> u32 {
-    if (acts < 4) | (seed % 2 == 1) {
-        return duration as u32;
+    if acts < 4 || seed % 2 == 1 {
+        u32::from(duration)
+    } else if duration == 1 {
+        10000
+    } else {
+        20000
     }
-    if duration == 1 { 10000 } else { 20000 }
 }
 
 // Two plans of three are of edition 2.
@@ -55,11 +58,12 @@ fn is_second(seed: u64) -> bool {
 
 // The units that a resource has in edition 2: few as a rule.
 fn capacity(seed: u64, resource: u8) -> u8 {
-    let state = drawn(drawn(std::num::wrapping_add_u64(seed, resource as u64)));
+    let state = drawn(drawn(seed.wrapping_add(u64::from(resource))));
     if below(state, 8) == 0 {
-        return 15;
+        15
+    } else {
+        below(state >> 8, 3) + 1
     }
-    below(state >> 8, 3) + 1
 }
 
 // The units that an activity holds of a resource: some of most resources where these are few, of few where they are
@@ -67,82 +71,81 @@ fn capacity(seed: u64, resource: u8) -> u8 {
 fn units(state: u64, res: u8, most: u8) -> u8 {
     let idle = if res < 4 { 1 } else { 3 };
     if below(state >> 8, 4) < idle {
-        return 0;
+        0
+    } else {
+        below(state, most).saturating_add(1)
     }
-    std::num::wrapping_add_u8(below(state, most), 1)
 }
 
-fn capacities(out: &mut [u8], start: usize, seed: u64, res: u8) -> usize {
-    let mut at = start;
+fn capacities(writer: &mut Writer, seed: u64, res: u8) {
     for r in 0..res {
-        at = text::line(out, at, b"cap=", capacity(seed, r) as u32);
+        writer.line(b"cap=", u32::from(capacity(seed, r)));
     }
-    at
 }
 
 // The counts of an activity in edition 2, one for each resource.
-fn counts(out: &mut [u8], start: usize, seed: u64, first: u64, res: u8) -> usize {
-    let mut at = start;
+fn counts(writer: &mut Writer, seed: u64, first: u64, res: u8) {
     let mut state = first;
     for r in 0..res {
         state = drawn(state);
-        at = text::value(out, at, b",", units(state, res, capacity(seed, r)) as u32);
+        writer.value(b",", u32::from(units(state, res, capacity(seed, r))));
     }
-    text::put(out, at, b'\n')
+    writer.put(b'\n');
 }
 
-fn activity(out: &mut [u8], start: usize, seed: u64, state: u64, duration: u32, res: u8) -> usize {
+fn activity(writer: &mut Writer, seed: u64, state: u64, duration: u32, res: u8) {
     if is_second(seed) {
-        let at = text::value(out, start, b"act=", duration);
-        return counts(out, at, seed, state, res);
+        writer.value(b"act=", duration);
+        counts(writer, seed, state, res);
+    } else {
+        writer.activity(below(state, res), duration);
     }
-    text::activity(out, start, below(state, res), duration)
 }
 
-fn activities(out: &mut [u8], start: usize, seed: u64, acts: u8, res: u8) -> usize {
-    let mut at = start;
+fn activities(writer: &mut Writer, seed: u64, acts: u8, res: u8) {
     let mut state = seed;
-    for i in 0..acts {
+    for _ in 0..acts {
         let short = duration(state >> 6, seed >> 12, acts);
-        at = activity(out, at, seed, state, soaked(short, seed, acts), res);
+        activity(writer, seed, state, soaked(short, seed, acts), res);
         state = drawn(state);
     }
-    at
 }
 
-fn nodes(out: &mut [u8], start: usize, t: Term) -> usize
-    ensures { Counts result out.new }
-{
-    let mut at = text::line(out, start, b"nodes=", t.nodes as u32);
-    for i in 0..t.nodes {
-        at = text::node(out, at, tree::letter(t, i), tree::number(t, i));
+fn nodes(writer: &mut Writer, t: &Term) {
+    writer.line(b"nodes=", u32::from(t.nodes));
+    for node in t.node.iter().take(usize::from(t.nodes)) {
+        writer.node(node.kind, node.number);
     }
-    at
 }
 
 // The edition and the resources.
-fn head(out: &mut [u8], seed: u64, res: u8) -> usize {
-    let edition = if is_second(seed) { 2 } else { 1 };
-    let at = text::line(out, 0, b"plan=", edition);
-    let end = text::line(out, at, b"res=", res as u32);
+fn head(writer: &mut Writer, seed: u64, res: u8) {
+    writer.line(b"plan=", if is_second(seed) { 2 } else { 1 });
+    writer.line(b"res=", u32::from(res));
     if is_second(seed) {
-        return capacities(out, end, seed, res);
+        capacities(writer, seed, res);
     }
-    end
+}
+
+fn written(seed: u64, out: &mut [u8]) -> usize {
+    let first = drawn(drawn(random::seeded(seed)));
+    let second = drawn(first);
+    let third = drawn(second);
+    let res = resources(first);
+    let acts = below(second, 6) + 1;
+    let mut writer = Writer::new(out, 0);
+    head(&mut writer, third, res);
+    writer.line(b"acts=", u32::from(acts));
+    activities(&mut writer, third, acts, res);
+    let apart = drawn(third / 2 + 1);
+    nodes(&mut writer, &tree::grown(apart, acts));
+    writer.at()
 }
 
 // Writes the plan of a seed, and returns its length. What does not fit the area is left out; 1024 bytes are enough.
 pub fn generate(seed: u64, out: &mut [u8]) -> usize
     ensures { Counts result out.new }
 {
-    let first = drawn(drawn(random::seeded(seed)));
-    let second = drawn(first);
-    let third = drawn(second);
-    let res = resources(first);
-    let acts = below(second, 6) + 1;
-    let mut at = head(out, third, res);
-    at = text::line(out, at, b"acts=", acts as u32);
-    at = activities(out, at, third, acts, res);
-    let apart = drawn(third / 2 + 1);
-    nodes(out, at, tree::grown(apart, acts))
+    let length = written(seed, out);
+    within(out, length)
 }

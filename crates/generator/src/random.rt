@@ -10,7 +10,7 @@ pub fn drawn(state: u64) -> u64 {
 
 // The first state.
 pub fn seeded(seed: u64) -> u64 {
-    std::num::wrapping_add_u64(seed, 11400714819323198485)
+    seed.wrapping_add(11400714819323198485)
 }
 
 // A number below n, or 0 where n is 0, from the upper half of a state.

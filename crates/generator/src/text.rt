@@ -1,72 +1,87 @@
-// The lines of a plan file, each written at a position; a writer returns the position after what it wrote.
+// The lines of a plan file.
 ghost use Rattle.generator.specs.Text.{Counts};
 
-pub fn put(out: &mut [u8], at: usize, b: u8) -> usize
-    ensures { Counts result out.new }
-{
-    if out.len() <= at {
-        return out.len();
+use crate::tree::Kind;
+
+// An area that is written from a place on. What does not fit is left out.
+#[derive(Drop)]
+pub struct Writer<'a> {
+    out: &'a mut [u8],
+    at: usize,
+}
+
+impl<'a> Writer<'a> {
+    pub fn new(out: &'a mut [u8], at: usize) -> Writer<'a> {
+        Writer { out, at }
     }
-    out[at] = b;
-    at + 1
+
+    // The place behind what was written.
+    pub fn at(&self) -> usize {
+        self.at
+    }
+
+    pub fn put(&mut self, b: u8) {
+        if let Some(place) = self.out.get_mut(self.at) {
+            *place = b;
+            self.at += 1;
+        }
+    }
+
+    fn put_all(&mut self, bytes: &[u8]) {
+        for b in bytes {
+            self.put(*b);
+        }
+    }
+
+    // The last digit of a number.
+    fn digit(&mut self, n: u32) {
+        self.put((n % 10) as u8 + b'0');
+    }
+
+    // The last digit of a number, of 0 none.
+    fn leading_digit(&mut self, n: u32) {
+        if n != 0 {
+            self.digit(n);
+        }
+    }
+
+    // A number below 100000.
+    fn number(&mut self, n: u32) {
+        self.leading_digit(n / 10000);
+        self.leading_digit(n / 1000);
+        self.leading_digit(n / 100);
+        self.leading_digit(n / 10);
+        self.digit(n);
+    }
+
+    // A key and its value.
+    pub fn value(&mut self, key: &[u8], n: u32) {
+        self.put_all(key);
+        self.number(n);
+    }
+
+    // A key, its value and the end of the line.
+    pub fn line(&mut self, key: &[u8], n: u32) {
+        self.value(key, n);
+        self.put(b'\n');
+    }
+
+    // The line of an activity in edition 1.
+    pub fn activity(&mut self, resource: u8, duration: u32) {
+        self.value(b"act=", u32::from(resource));
+        self.line(b",", duration);
+    }
+
+    pub fn node(&mut self, kind: Kind, n: u8) {
+        self.put_all(b"node=");
+        self.put(kind.letter());
+        self.line(b",", u32::from(n));
+    }
 }
 
 // A position, or the end of the area where that comes first.
 pub fn within(out: &mut [u8], at: usize) -> usize
     ensures { Counts result out.new }
 {
-    if out.len() <= at { out.len() } else { at }
-}
-
-fn word(out: &mut [u8], start: usize, bytes: &[u8]) -> usize {
-    let mut at = start;
-    for i in 0..bytes.len() {
-        at = put(out, at, bytes[i]);
-    }
-    at
-}
-
-// The last digit of a number, of 0 none.
-fn last_digit(out: &mut [u8], at: usize, n: u32) -> usize {
-    if n == 0 {
-        return at;
-    }
-    put(out, at, (n % 10) as u8 + b'0')
-}
-
-// A number below 100000.
-fn number(out: &mut [u8], start: usize, n: u32) -> usize {
-    let mut at = last_digit(out, start, n / 10000);
-    at = last_digit(out, at, n / 1000);
-    at = last_digit(out, at, n / 100);
-    at = last_digit(out, at, n / 10);
-    put(out, at, (n % 10) as u8 + b'0')
-}
-
-// A key and its value.
-pub fn value(out: &mut [u8], start: usize, key: &[u8], n: u32) -> usize {
-    let at = word(out, start, key);
-    number(out, at, n)
-}
-
-// A key, its value and the end of the line.
-pub fn line(out: &mut [u8], start: usize, key: &[u8], n: u32) -> usize
-    ensures { Counts result out.new }
-{
-    let end = value(out, start, key, n);
-    put(out, end, b'\n')
-}
-
-// The line of an activity in edition 1.
-pub fn activity(out: &mut [u8], start: usize, resource: u8, duration: u32) -> usize {
-    let comma = value(out, start, b"act=", resource as u32);
-    line(out, comma, b",", duration)
-}
-
-pub fn node(out: &mut [u8], start: usize, letter: u8, n: u8) -> usize
-    ensures { Counts result out.new }
-{
-    let at = word(out, start, b"node=");
-    let comma = put(out, at, letter);
-    line(out, comma, b",", n as u32)
+    at.min(out.len())
 }

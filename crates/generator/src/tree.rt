@@ -5,149 +5,163 @@ use crate::random::{below, drawn};
 // The most nodes, and the most children still to come.
 const MOST: usize = 32;
 
+// An activity, in sequence, in parallel, one of several.
+#[derive(Clone, Copy, PartialEq, Eq, Debug)]
+pub enum Kind {
+    Act,
+    Seq,
+    Pll,
+    Xor,
+}
+
+impl Kind {
+    pub fn letter(self) -> u8 {
+        match self {
+            Kind::Act => b'a',
+            Kind::Seq => b's',
+            Kind::Pll => b'p',
+            Kind::Xor => b'x',
+        }
+    }
+}
+
+#[derive(Clone, Copy)]
+pub struct Node {
+    pub kind: Kind,
+    pub number: u8,
+}
+
+// A range of activities, the last of which is the one before its end.
+#[derive(Clone, Copy)]
+struct Range {
+    from: u8,
+    to: u8,
+}
+
+impl Range {
+    // Where a range is parted: past its first activity, and before its end if it has two.
+    fn middle(self, state: u64) -> u8 {
+        match self.to.saturating_sub(self.from) {
+            0 | 1 => self.to,
+            width => self.from + 1 + below(state, width - 1),
+        }
+    }
+}
+
 #[derive(Clone, Copy)]
 pub struct Term {
     pub nodes: u8,
+    pub node: [Node; MOST],
     state: u64,
     forks: u8,
-    letter: [u8; MOST],
-    number: [u8; MOST],
     // the children still to come, the next one last, each with its range
     open: usize,
-    from: [u8; MOST],
-    to: [u8; MOST],
+    range: [Range; MOST],
 }
 
-pub fn letter(t: Term, node: u8) -> u8 {
-    let at = node as usize;
-    if at < MOST { t.letter[at] } else { 0 }
-}
+impl Term {
+    fn new(state: u64) -> Term {
+        let none = Node {
+            kind: Kind::Act,
+            number: 0,
+        };
+        Term {
+            nodes: 0,
+            node: [none; MOST],
+            state,
+            forks: 0,
+            open: 0,
+            range: [Range { from: 0, to: 0 }; MOST],
+        }
+    }
 
-pub fn number(t: Term, node: u8) -> u8 {
-    let at = node as usize;
-    if at < MOST { t.number[at] } else { 0 }
-}
+    fn add_node(&mut self, kind: Kind, number: u8) {
+        if let Some(place) = self.node.get_mut(usize::from(self.nodes)) {
+            *place = Node { kind, number };
+            self.nodes += 1;
+        }
+    }
 
-fn with_node(t: Term, letter: u8, number: u8) -> Term {
-    let at = t.nodes as usize;
-    if MOST <= at {
-        return t;
+    fn add_child(&mut self, from: u8, to: u8) {
+        if let Some(place) = self.range.get_mut(self.open) {
+            *place = Range { from, to };
+            self.open += 1;
+        }
     }
-    let mut u = t;
-    u.letter[at] = letter;
-    u.number[at] = number;
-    u.nodes = std::num::wrapping_add_u8(t.nodes, 1);
-    u
-}
 
-fn with_child(t: Term, from: u8, to: u8) -> Term {
-    let at = t.open;
-    if MOST <= at {
-        return t;
+    // Takes the next child.
+    fn take_child(&mut self) -> Option<Range> {
+        let last = self.open.checked_sub(1)?;
+        let range = *self.range.get(last)?;
+        self.open = last;
+        Some(range)
     }
-    let mut u = t;
-    u.from[at] = from;
-    u.to[at] = to;
-    u.open = at + 1;
-    u
-}
 
-// Where a range is parted: past its first activity, and before its end if it has two.
-fn middle(state: u64, from: u8, to: u8) -> u8 {
-    if to <= from {
-        return to;
+    // A group whose children part the range, in either order; of a range that cannot be parted, its activity.
+    fn part(&mut self, kind: Kind, range: Range, cut: u8) {
+        let Range { from, to } = range;
+        if to <= cut {
+            self.add_node(Kind::Act, from);
+        } else if self.state / 16 % 2 == 0 {
+            self.add_node(kind, 2);
+            self.add_child(from, cut);
+            self.add_child(cut, to);
+        } else if to - cut < 2 {
+            self.add_node(kind, 2);
+            self.add_child(cut, to);
+            self.add_child(from, cut);
+        } else {
+            self.add_node(kind, 3);
+            self.add_child(cut + 1, to);
+            self.add_child(cut, cut + 1);
+            self.add_child(from, cut);
+        }
     }
-    let width = to - from;
-    if width < 2 {
-        return to;
-    }
-    from + 1 + below(state, width - 1)
-}
 
-// A group whose children part the range, in either order; of a range that cannot be parted, its activity.
-fn parted(t: Term, letter: u8, from: u8, to: u8, cut: u8) -> Term {
-    if to <= cut {
-        return with_node(t, b'a', from);
+    // An x whose children share the range.
+    fn fork(&mut self, range: Range, cut: u8) {
+        let Range { from, to } = range;
+        let children = below(self.state, 2) + 2;
+        self.forks = self.forks.saturating_add(1);
+        self.add_node(Kind::Xor, children);
+        self.add_child(from, cut);
+        self.add_child(from, to);
+        if children != 2 {
+            self.add_child(if cut < to { cut } else { from }, to);
+        }
     }
-    if t.state / 16 % 2 == 0 {
-        return with_child(with_child(with_node(t, letter, 2), from, cut), cut, to);
-    }
-    if to - cut < 2 {
-        return with_child(with_child(with_node(t, letter, 2), cut, to), from, cut);
-    }
-    let last = with_child(with_node(t, letter, 3), cut + 1, to);
-    with_child(with_child(last, cut, cut + 1), from, cut)
-}
 
-// An x whose children share the range.
-fn forked(t: Term, from: u8, to: u8, cut: u8) -> Term {
-    let children = below(t.state, 2) + 2;
-    let mut u = with_child(with_node(t, b'x', children), from, cut);
-    u.forks = std::num::wrapping_add_u8(t.forks, 1);
-    if children == 2 {
-        return with_child(u, from, to);
+    // One node for a range: its first activity alone, or a group. Which is a matter of chance, hence a number.
+    fn add_range(&mut self, range: Range) {
+        let cut = range.middle(self.state / 256);
+        match self.state % 8 {
+            0 if 0 < self.nodes => self.add_node(Kind::Act, range.from),
+            6..=7 if self.forks < 3 => self.fork(range, cut),
+            0 | 2 | 4 | 6 => self.part(Kind::Pll, range, cut),
+            _ => self.part(Kind::Seq, range, cut),
+        }
     }
-    if cut < to {
-        return with_child(with_child(u, from, to), cut, to);
-    }
-    with_child(with_child(u, from, to), from, to)
-}
 
-// One node for a range: its first activity alone, or a group.
-fn with_range(t: Term, from: u8, to: u8) -> Term {
-    let kind = t.state % 8;
-    let cut = middle(t.state / 256, from, to);
-    if (kind == 0) & (0 < t.nodes) {
-        return with_node(t, b'a', from);
+    // The next child in its range; where the term is large already, an activity.
+    fn step(&mut self) {
+        let Some(range) = self.take_child() else {
+            return;
+        };
+        self.state = drawn(self.state);
+        if 20 < self.nodes || 8 < self.open {
+            self.add_node(Kind::Act, range.from);
+        } else {
+            self.add_range(range);
+        }
     }
-    if (5 < kind) & (t.forks < 3) {
-        return forked(t, from, to, cut);
-    }
-    if kind % 2 == 0 {
-        return parted(t, b'p', from, to, cut);
-    }
-    parted(t, b's', from, to, cut)
-}
-
-// The next child in its range; where the term is large already, an activity.
-fn step(t: Term) -> Term {
-    if t.open == 0 {
-        return t;
-    }
-    let at = t.open - 1;
-    if MOST <= at {
-        return t;
-    }
-    let from = t.from[at];
-    let to = t.to[at];
-    let mut u = t;
-    u.open = at;
-    u.state = drawn(t.state);
-    if (20 < t.nodes) | (8 < at) {
-        return with_node(u, b'a', from);
-    }
-    with_range(u, from, to)
-}
-
-fn sprout(state: u64, acts: u8) -> Term {
-    let bare = Term {
-        nodes: 0,
-        state,
-        forks: 0,
-        letter: [0; MOST],
-        number: [0; MOST],
-        open: 0,
-        from: [0; MOST],
-        to: [0; MOST],
-    };
-    with_child(bare, 0, acts)
 }
 
 // Each step makes one node.
 pub fn grown(state: u64, acts: u8) -> Term {
-    let mut t = sprout(state, acts);
-    for i in 0..MOST {
-        t = step(t);
+    let mut term = Term::new(state);
+    term.add_child(0, acts);
+    for _ in 0..MOST {
+        term.step();
     }
-    t
+    term
 }

@@ -16,31 +16,31 @@ use Rattle.judge.specs.Judge.{judge, accepts, refuses}
 use Rattle.judge.specs.Campaign.{HoldsPlan}
 use Rattle.judge.specs.declared.Campaign.{Campaign}
 use Rattle.inspect.specs.Answer.{check_of}
-use Rattle.inspect.specs.declared.CheckAnswer.TheVariants.{Checked, Refused}
+use Rattle.std.specs.Prelude.{Ok, Err}
 
 -- What CHECK answers for an accepted plan, by whether it has such a variant.
 pub check_some : (s : List ℕ) (v : ℕ) (row : List ℕ) (p : Plan) (t : Term) → judge s ≡ accepts p t
     → v < variant_count t
-    → check_of s v row ≡ Checked (is_session p (variant_at t v) row)
+    → check_of s v row ≡ Ok (is_session p (variant_at t v) row)
 unfolding check_of
 check_some s v row p t e h = rw (e, lt-ltb v (variant_count t) h)
 
 pub check_none : (s : List ℕ) (v : ℕ) (row : List ℕ) (p : Plan) (t : Term) → judge s ≡ accepts p t
     → variant_count t ≤ v
-    → check_of s v row ≡ Refused NoSuchVariant
+    → check_of s v row ≡ Err NoSuchVariant
 unfolding check_of
 check_none s v row p t e h = rw (e, le-ltb v (variant_count t) h)
 
 pub check_refused : (s : List ℕ) (v : ℕ) (row : List ℕ) (r : Refusal) → judge s ≡ refuses r
-    → check_of s v row ≡ Refused r
+    → check_of s v row ≡ Err r
 unfolding check_of
 check_refused s v row r e = rw e
 
 module _ (s : List ℕ) (v : ℕ) (row : List ℕ) (c : Campaign) (t : Term) (is : judge s ≡ accepts (plan_of c.tables) t)
     (h : HoldsPlan c t) where
   pub checked : (answer : Bool) → v < c.variants → answer ≡ is_session (plan_of c.tables) (variant_at t v) row
-      → Checked answer ≡ check_of s v row
-  checked answer l e = ap Checked e ∙ sym (check_some s v row (plan_of c.tables) t is (omega (arith, h.counted)))
+      → Ok answer ≡ check_of s v row
+  checked answer l e = ap Ok e ∙ sym (check_some s v row (plan_of c.tables) t is (omega (arith, h.counted)))
 
-  pub no_such : c.variants ≤ v → Refused NoSuchVariant ≡ check_of s v row
+  pub no_such : c.variants ≤ v → Err NoSuchVariant ≡ check_of s v row
   no_such l = sym (check_none s v row (plan_of c.tables) t is (omega (arith, h.counted)))

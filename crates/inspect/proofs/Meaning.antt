@@ -19,13 +19,13 @@ use Rattle.judge.specs.Judge.{Verdict, judge, accepts, refuses}
 use Rattle.judge.proofs.Accepts.{accepted_valid}
 use Rattle.inspect.specs.Answer.{check_of, check_by, check_variant}
 use Rattle.inspect.specs.Words.{SessionOf}
-use Rattle.inspect.specs.declared.CheckAnswer.TheVariants.{Checked, Refused}
+use Rattle.std.specs.Prelude.{Result, Ok, Err}
 use Rattle.inspect.proofs.Checking.{check_some}
 
-same_answer : {a b : Bool} → Checked a ≡ Checked b → a ≡ b
+same_answer : {a b : Bool} → ◌≡◌ {A = Result Bool Refusal} (Ok a) (Ok b) → a ≡ b
 same_answer e = cc
 
-never : {A : Type 0} {r : Refusal} {b : Bool} → Refused r ≡ Checked b → A
+never : {A : Type 0} {r : Refusal} {b : Bool} → ◌≡◌ {A = Result Bool Refusal} (Err r) (Ok b) → A
 never e = absurd (let z : ◌≡◌ {A = ℕ} 0 1 = cc in omega arith)
 
 -- CHECK of an accepted plan and a variant that it has.
@@ -37,26 +37,26 @@ module _ (s : List ℕ) (v : ℕ) (row : List ℕ) (p : Plan) (t : Term) (e : ju
       let inside = variant_inside p t v (record { valid = valid; below = h }) in
       session_means p (variant_at t v) inside row
 
-  pub check_means : (check_of s v row ≡ Checked true) ↔ Session p (variant_at t v) row
+  pub check_means : (check_of s v row ≡ Ok true) ↔ Session p (variant_at t v) row
   check_means =
       let answer = check_some s v row p t e h in
-      (λ q. test_means.0 (same_answer (sym answer ∙ q)), λ q. answer ∙ ap Checked (test_means.1 q))
+      (λ q. test_means.0 (same_answer (sym answer ∙ q)), λ q. answer ∙ ap Ok (test_means.1 q))
 
 -- CHECK of any bytes, number and timetable.
 module _ (s : List ℕ) (v : ℕ) (row : List ℕ) where
   yes_variant :
       (p : Plan) (t : Term) → judge s ≡ accepts p t → (b : Bool) → ltb v (variant_count t) ≡ b
-      → check_variant b p t v row ≡ Checked true → SessionOf s v row
+      → check_variant b p t v row ≡ Ok true → SessionOf s v row
   yes_variant p t e true l q =
       let h = ltb-true v (variant_count t) l in
       record { plan = p; term = t; accepted = e; below = h; session = (test_means s v row p t e h).0 (same_answer q) }
   yes_variant p t e false l q = never q
 
-  yes_verdict : (o : Verdict) → judge s ≡ o → check_by o v row ≡ Checked true → SessionOf s v row
+  yes_verdict : (o : Verdict) → judge s ≡ o → check_by o v row ≡ Ok true → SessionOf s v row
   yes_verdict (accepts p t) e q = yes_variant p t e (ltb v (variant_count t)) refl q
   yes_verdict (refuses r) e q = never q
 
-  pub check_yes : (check_of s v row ≡ Checked true) ↔ SessionOf s v row
+  pub check_yes : (check_of s v row ≡ Ok true) ↔ SessionOf s v row
   unfolding check_of
   check_yes = (
     λ q. yes_verdict (judge s) refl q,

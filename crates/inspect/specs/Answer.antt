@@ -1,5 +1,5 @@
 -- CHECK: is the timetable a feasible session of variant v?
-use Rattle.std.specs.Prelude.{ℕ, Bool, true, false, List, ltb}
+use Rattle.std.specs.Prelude.{ℕ, Bool, true, false, List, ltb, Result, Ok, Err}
 use Rattle.plan.specs.Plan.{Plan}
 use Rattle.plan.specs.declared.Refusal.TheVariants.{NoSuchVariant}
 use Rattle.term.specs.Term.{Term}
@@ -7,17 +7,16 @@ use Rattle.term.specs.Variants.{variant_count}
 use Rattle.variant.specs.Project.{variant_at}
 use Rattle.variant.specs.Timetable.{is_session}
 use Rattle.judge.specs.Judge.{Verdict, accepts, refuses, judge}
-use Rattle.inspect.specs.declared.CheckAnswer.{CheckAnswer}
-use Rattle.inspect.specs.declared.CheckAnswer.TheVariants.{Checked, Refused}
+use Rattle.plan.specs.declared.Refusal.{Refusal}
 
 -- By whether the plan has such a variant.
-abbrev pub check_variant : Bool → Plan → Term → ℕ → List ℕ → CheckAnswer
-check_variant true p t v row = Checked (is_session p (variant_at t v) row)
-check_variant false p t v row = Refused NoSuchVariant
+abbrev pub check_variant : Bool → Plan → Term → ℕ → List ℕ → Result Bool Refusal
+check_variant true p t v row = Ok (is_session p (variant_at t v) row)
+check_variant false p t v row = Err NoSuchVariant
 
-abbrev pub check_by : Verdict → ℕ → List ℕ → CheckAnswer
+abbrev pub check_by : Verdict → ℕ → List ℕ → Result Bool Refusal
 check_by (accepts p t) v row = check_variant (ltb v (variant_count t)) p t v row
-check_by (refuses r) v row = Refused r
+check_by (refuses r) v row = Err r
 
-unfoldable pub check_of : List ℕ → ℕ → List ℕ → CheckAnswer
+unfoldable pub check_of : List ℕ → ℕ → List ℕ → Result Bool Refusal
 check_of s v row = check_by (judge s) v row

@@ -1,20 +1,24 @@
 -- Cells filled one after another, and sets made by a test.
-use Prim.Native.Nat.{ℕ, ◌+◌, ◌^◌, ◌<◌}
-use native.Mathlib.Decide.{ℕ_discrete, dec_lt}
+use Prim.Native.Nat.{ℕ, ◌+◌, ◌^◌, ◌≤◌, ◌<◌}
+use native.Mathlib.Decide.{ℕ_discrete}
 use native.Mathlib.Omega.{arith}
-use mathlib.Core.Bool.{Bool, true, false, ◌&&◌, ◌||◌, and-true, and-false, or-false}
+use mathlib.Core.Bool.{Bool, true, false, ◌&&◌, ◌||◌}
 use mathlib.Core.List.{List}
 use mathlib.Core.Logic.{◌≢◌, by_cases}
-use mathlib.Core.Path.{◌≡◌, refl, sym, ap, ap₂, ◌∙◌, subst}
-use lib.Bits.{or_lt}
+use mathlib.Core.Path.{◌≡◌, refl, sym, ap, ◌∙◌, subst}
+use lib.Bits.{bit_or, or_lt}
 use lib.Dec.{ltb, eqb}
 use lib.ListN.{length, get_or, set, length-set}
 use lib.Pow.{pow-lt}
 use lib.Seq.{get_or-set_same, get_or-set_other}
-use borrow.Author.Tests.{lt-ltb, le-ltb, eq-eqb, ne_eqb}
+use borrow.Author.Tests.{le-ltb}
+use borrow.Rule.Slice.PartMut.{put_mid}
+use Rattle.std.proofs.Common.{rules, length-append, length-take, length-drop}
+use Rattle.std.proofs.lemmas.List.{places}
+use Rattle.std.proofs.lemmas.Bool.Decides.{nat_tests}
 use Rattle.sets.proofs.Laws.{has_none, has_with}
 use Rattle.sets.specs.Sets.{most, has}
-use Rattle.instance.specs.Steps.{with_if, Passing, Filled}
+use Rattle.instance.specs.Steps.{Passing, Filled}
 
 -- ---- cells
 
@@ -44,23 +48,21 @@ module _ (t : List ℕ) (from : ℕ) (P : ℕ → ℕ → Type 0) where
   pub filled_all : (n m : ℕ) (l : List ℕ) → n ≡ m → Filled t from n P l → Filled t from m P l
   filled_all n m l e = subst (λ (k : ℕ). Filled t from k P l) e
 
+-- A part of the table is written at once.
+pub filled_part : (t : List ℕ) (from n : ℕ) (P : ℕ → ℕ → Type 0) (xs : List ℕ) → from + n ≤ length t → length xs ≡ n
+    → ((i : ℕ) → i < n → P i (get_or xs i 0)) → Filled t from n P (put_mid from n t xs)
+filled_part t from n P xs inside long here =
+    record {
+      long = omega (arith, length-append {A = ℕ}, length-take {A = ℕ}, length-drop {A = ℕ});
+      new = λ i b. subst (P i) (new_at i b) (here i b);
+      before = λ at b. search (rules, places);
+      behind = λ at b. search (rules, places);
+    }
+  where
+    new_at : (i : ℕ) → i < n → get_or xs i 0 ≡ get_or (put_mid from n t xs) (from + i) 0
+    new_at i b = search (rules, places)
+
 -- ---- sets
-
--- One number more passes the test only at that number.
-next_test : (j n : ℕ) → j ≢ n → ltb j (n + 1) ≡ ltb j n
-next_test j n ne =
-    by_cases
-    (dec_lt j n)
-    (λ l. lt-ltb j (n + 1) (omega arith) ∙ sym (lt-ltb j n l))
-    (λ l. le-ltb j (n + 1) (omega arith) ∙ sym (le-ltb j n (omega arith)))
-
-has_if : (b : Bool) (set n k : ℕ) → has (with_if b set n) k ≡ (has set k || (b && eqb k n))
-has_if true set n k = has_with set n k
-has_if false set n k = sym (or-false (has set k))
-
-if_low : (b : Bool) (set n : ℕ) → set < 2 ^ most → n < most → with_if b set n < 2 ^ most
-if_low true set n low h = or_lt most set (2 ^ n) low (pow-lt h)
-if_low false set n low h = low
 
 pub passing_none : (test : ℕ → Bool) → Passing 0 test 0
 passing_none test =
@@ -69,30 +71,16 @@ passing_none test =
       member = λ k. has_none k ∙ sym (ap (λ (b : Bool). b && test k) (le-ltb k 0 (omega arith)));
     }
 
-pub passing_more : (n : ℕ) (test : ℕ → Bool) (set x : ℕ) → n < most → Passing n test set → x ≡ with_if (test n) set n
-    → Passing (n + 1) test x
-passing_more n test set x h so_far e =
-    record {
-      low = subst (λ (y : ℕ). y < 2 ^ most) (sym e) (if_low (test n) set n so_far.low h);
-      member = λ k.
-          ap (λ (y : ℕ). has y k) e
-          ∙ has_if (test n) set n k
-          ∙ ap (λ (b : Bool). b || (test n && eqb k n)) (so_far.member k)
-          ∙ by_cases (ℕ_discrete k n) (here k) (there k);
-    }
-  where
-    here : (k : ℕ) → k ≡ n → ((ltb k n && test k) || (test n && eqb k n)) ≡ (ltb k (n + 1) && test k)
-    here k q =
-        ap₂ (λ (a b : Bool). (a && test k) || (test n && b)) (le-ltb k n (omega arith)) (eq-eqb k n q)
-        ∙ and-true (test n)
-        ∙ ap test (sym q)
-        ∙ ap (λ (b : Bool). b && test k) (sym (lt-ltb k (n + 1) (omega arith)))
+module _ {n : ℕ} {test : ℕ → Bool} {set : ℕ} (h : Passing n test set) where
+  pub passing_yes : {x : ℕ} → n < most → test n ≡ true → x ≡ bit_or set (2 ^ n) → Passing (n + 1) test x
+  passing_yes {x} b y e =
+      record {
+        low = rw e (or_lt most set (2 ^ n) h.low (pow-lt b));
+        member = λ k. ap (λ (z : ℕ). has z k) e ∙ has_with set n k ∙ next k;
+      }
+    where
+      next : (k : ℕ) → (has set k || eqb k n) ≡ (ltb k (n + 1) && test k)
+      next k = grind (arith, nat_tests, h.member k)
 
-    there : (k : ℕ) → k ≢ n → ((ltb k n && test k) || (test n && eqb k n)) ≡ (ltb k (n + 1) && test k)
-    there k ne =
-        ap₂ (λ (a b : Bool). (a && test k) || (test n && b)) (sym (next_test k n ne)) (ne_eqb k n ne)
-        ∙ ap (λ (b : Bool). (ltb k (n + 1) && test k) || b) (and-false (test n))
-        ∙ or-false (ltb k (n + 1) && test k)
-
-pub passing_all : (n m : ℕ) (test : ℕ → Bool) (set : ℕ) → n ≡ m → Passing n test set → Passing m test set
-passing_all n m test set e = subst (λ (k : ℕ). Passing k test set) e
+  pub passing_no : {x : ℕ} → test n ≡ false → x ≡ set → Passing (n + 1) test x
+  passing_no y e = rw e (record { low = h.low; member = λ k. grind (arith, nat_tests, h.member k) })

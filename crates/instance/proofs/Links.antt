@@ -1,25 +1,23 @@
 -- The nearest predecessors, and the activities that come next.
 use Prim.Native.Nat.{ℕ, ◌+◌, ◌^◌, ◌≤◌, ◌<◌}
-use native.Mathlib.Nat.{lt_of_le_of_lt}
 use native.Mathlib.Decide.{ℕ_discrete, dec_lt}
 use native.Mathlib.Omega.{arith}
 use mathlib.Core.Bool.{Bool, true, false, not, ◌&&◌, ◌||◌, or-true, or-false}
 use mathlib.Core.List.{List}
 use mathlib.Core.Logic.{◌≢◌, by_cases}
 use mathlib.Core.Path.{◌≡◌, refl, sym, ap, ap₂, ◌∙◌, subst}
-use lib.Bits.{bit_and, bit_or, bit_xor, and_le_l, or_lt, xor_lt}
+use lib.Bits.{bit_and, bit_or, bit_xor, or_lt}
 use lib.ListN.{length, get_or, set, length-set}
 use lib.Pow.{pow-lt}
 use lib.Seq.{get_or-set_same, get_or-set_other}
 use borrow.Author.Tests.{eq-eqb, ne_eqb}
 use Rattle.base.proofs.Bools.{by_bool, true_not_false, and_left, cond_true, cond_false}
-use Rattle.sets.proofs.Laws.{has_none, has_with, has_minus}
+use Rattle.sets.proofs.Laws.{has_none, has_with, has_minus, minus_low}
 use Rattle.sets.specs.Sets.{most, has}
-use Rattle.sets.proofs.Members.{lowest_below, lowest_has, after_less, after_has}
-use Rattle.sets.specs.Lowest.{lowest_of, after_lowest}
+use Rattle.sets.proofs.Turns.{Turn, turn_has}
 use Rattle.instance.specs.Table.{preds_at, next_at, near_at, preds_from, next_from, near_from, component_from, words}
 use Rattle.instance.specs.Instance.{Between}
-use Rattle.instance.specs.Steps.{with_if, Filled, Nearest, LinkedNext, Blank, Links}
+use Rattle.instance.specs.Steps.{with_if, Nearest, LinkedNext, Blank, Links}
 
 -- ---- the nearest members of a set
 
@@ -29,26 +27,13 @@ pub record Nearing (t : List ℕ) (set near rest : ℕ) : Type 0 where
   pub low : rest < 2 ^ most
   pub within : (k : ℕ) → has rest k ≡ true → has set k ≡ true
 
-pub nearing_none : (t : List ℕ) (set : ℕ) → set < 2 ^ most → Nearing t set set set
-nearing_none t set h =
-    record {
-      so_far = record { low = h; inside = λ k e. e; far = λ k e n. true_not_false e n };
-      low = h;
-      within = λ k e. e;
-    }
-
-pub nearing_more : (t : List ℕ) (set near rest near' rest' i : ℕ) → Nearing t set near rest → rest ≢ 0
-    → i ≡ lowest_of rest
-    → near' ≡ bit_xor near (bit_and near (preds_at t i)) → rest' ≡ after_lowest rest → Nearing t set near' rest'
-nearing_more t set near rest near' rest' i h more at new next =
+pub nearing_more : {t : List ℕ} {set near rest near' rest' i : ℕ} → Nearing t set near rest → Turn rest rest' i
+    → near' ≡ bit_xor near (bit_and near (preds_at t i)) → Nearing t set near' rest'
+nearing_more {t} {set} {near} {rest} {near'} {rest'} {i} h turn new =
     record {
       so_far =
           record {
-            low =
-                let small =
-                xor_lt most near (bit_and near (preds_at t i)) h.so_far.low
-                (lt_of_le_of_lt (and_le_l near (preds_at t i)) h.so_far.low) in
-                omega arith;
+            low = rw new (minus_low near (preds_at t i) h.so_far.low);
             inside =
                 λ k e. h.so_far.inside k (and_left (has near k) (not (has (preds_at t i) k)) (sym (member k) ∙ e));
             far = λ k e n.
@@ -57,29 +42,16 @@ nearing_more t set near rest near' rest' i h more at new next =
                 (λ there.
                 by_bool
                 (has (preds_at t i) k)
-                (λ gone. (
-                  i,
-                  lowest_below rest i h.low more at,
-                  h.within i
-                      (lowest_has rest i h.low more at),
-                  gone,
-                ))
+                (λ gone. (i, turn.below, h.within i turn.there, gone))
                 (λ stays. true_not_false (member k ∙ ap₂ (λ (x y : Bool). x && not y) there stays) n))
                 (λ out. h.so_far.far k e out);
           };
-      low = omega (arith, after_less rest h.low more, h.low);
-      within = λ k e. h.within k (after_has rest h.low more k (ap (λ (x : ℕ). has x k) (sym next) ∙ e));
+      low = turn.low;
+      within = λ k e. h.within k (turn_has turn k e);
     }
   where
     member : (k : ℕ) → has near' k ≡ (has near k && not (has (preds_at t i) k))
     member k = ap (λ (x : ℕ). has x k) new ∙ has_minus near (preds_at t i) k
-
--- ---- one activity comes next after each member of a set
-
-pub linked_all : (t : List ℕ) (m j : ℕ) (l : List ℕ)
-    → Filled t next_from most (λ i x. x ≡ with_if (has m i) (next_at t i) j) l → LinkedNext t m j l
-linked_all t m j l h =
-    record { long = h.long; next = h.new; before = h.before; behind = λ at b. h.behind at (omega arith) }
 
 -- ---- the activities below n are linked
 
@@ -94,8 +66,8 @@ pub record Linking (t : List ℕ) (n : ℕ) (l : List ℕ) : Type 0 where
   pub before : (at : ℕ) → at < next_from → get_or l at 0 ≡ get_or t at 0
   pub behind : (at : ℕ) → component_from ≤ at → get_or l at 0 ≡ get_or t at 0
 
-pub linking_none : (acts : ℕ) (t : List ℕ) → Blank acts t → Linking t 0 t
-linking_none acts t h =
+pub linking_none : {acts : ℕ} {t : List ℕ} → Blank acts t → Linking t 0 t
+linking_none {acts} {t} h =
     record {
       long = refl;
       next_low = λ i b. omega (arith, h.next_none i b);
@@ -112,9 +84,8 @@ linking_none acts t h =
     blank_has x k e = ap (λ (y : ℕ). has y k) e ∙ has_none k
 
 -- Activity n gets its nearest predecessors x, and comes next after each of them.
-module _ (t : List ℕ) (n : ℕ) (l : List ℕ) (x : ℕ) (r : List ℕ) (below : n < most) (long : length t ≡ words)
-    (h : Linking t n l)
-    (low : Nearest l (preds_at l n) x) (joined : LinkedNext (set l (near_from + n) x) x n r) where
+module _ {t : List ℕ} {n : ℕ} {l : List ℕ} {x : ℕ} {r : List ℕ} (below : n < most) (long : length t ≡ words)
+    (h : Linking t n l) (low : Nearest l (preds_at l n) x) (joined : LinkedNext (set l (near_from + n) x) x n r) where
   preds_same : (i : ℕ) → i < most → preds_at l i ≡ preds_at t i
   preds_same i b = h.before (preds_from + i) (omega arith)
 
@@ -203,8 +174,8 @@ module _ (t : List ℕ) (n : ℕ) (l : List ℕ) (x : ℕ) (r : List ℕ) (below
             ∙ h.behind p b;
       }
 
-pub linking_all : (acts n : ℕ) (t l : List ℕ) → n ≡ acts → Blank acts t → Linking t n l → Links t l
-linking_all acts n t l e blank h =
+pub linking_all : {acts n : ℕ} {t l : List ℕ} → Blank acts t → Linking t n l → n ≡ acts → Links t l
+linking_all {acts} {n} {t} {l} blank h e =
     record {
       linked =
           record {

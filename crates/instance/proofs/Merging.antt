@@ -1,11 +1,12 @@
 -- Components as sets, merged resource by resource.
 use Prim.Native.Nat.{ℕ, ◌+◌, ◌*◌, ◌^◌, ◌≤◌, ◌<◌}
+use native.Mathlib.Decide.{ℕ_discrete}
 use native.Mathlib.Numerals.{add-one}
 use native.Mathlib.Omega.{arith}
 use mathlib.Core.Bool.{Bool, true, false, cond, ◌&&◌, ◌||◌, or-true}
 use mathlib.Core.List.{List}
-use mathlib.Core.Logic.{◌≢◌}
-use mathlib.Core.Path.{◌≡◌, refl, sym, ap, ◌∙◌, subst}
+use mathlib.Core.Logic.{by_cases}
+use mathlib.Core.Path.{◌≡◌, refl, sym, ap, ◌∙◌}
 use lib.Bits.{bit_or, or_lt}
 use lib.Dec.{ltb, eqb}
 use lib.Pow.{pow-lt}
@@ -13,8 +14,7 @@ use borrow.Author.Tests.{lt-ltb, ltb-true, eq-eqb, eqb-true}
 use Rattle.base.proofs.Bools.{by_bool, true_not_false, same_bool, both, and_left, and_right, cond_true, cond_false}
 use Rattle.plan.specs.Limits.{most_resources}
 use Rattle.sets.proofs.Laws.{has_none, has_or, has_single}
-use Rattle.sets.proofs.Members.{lowest_below, lowest_has, after_less, after_has, rest_last}
-use Rattle.sets.specs.Lowest.{lowest_of, after_lowest}
+use Rattle.sets.proofs.Turns.{Turn, turn_has}
 use Rattle.sets.specs.Sets.{most, has}
 use Rattle.scan.specs.Components.{merged, component_below}
 use Rattle.instance.specs.Table.{component_from, units_from, component_at, units_at, acts_of, resources_of, project_in}
@@ -41,47 +41,42 @@ joining_none t m h =
       is = λ k e. true_not_false e (has_none k);
     }
 
-pub joining_more : (t : List ℕ) (m all rest all' rest' i : ℕ) → Joining t m all rest
-    → ((k : ℕ) → k < most → component_at t k < 2 ^ most)
-    → rest ≢ 0
-    → i ≡ lowest_of rest
-    → all' ≡ bit_or all (component_at t i)
-    → rest' ≡ after_lowest rest
-    → Joining t m all' rest'
-joining_more t m all rest all' rest' i h lows more at new after =
-    record {
-      all_low =
-          subst (λ (x : ℕ). x < 2 ^ most) (sym new)
-          (or_lt most all (component_at t i) h.all_low (lows i (lowest_below rest i h.low more at)));
-      low = omega (arith, after_less rest h.low more, h.low);
-      within = λ k e. h.within k (after_has rest h.low more k (ap (λ (x : ℕ). has x k) (sym after) ∙ e));
-      of = λ j k e n c.
-          by_bool (has rest j)
-          (λ y.
-          member k ∙ ap (λ (b : Bool). has all k || b) (ap (λ (x : ℕ). has (component_at t x) k)
-          (sym (rest_last rest rest' i h.low more at after j y n)) ∙ c)
-          ∙ or-true (has all k))
-          (λ z. member k ∙ ap (λ (b : Bool). b || has (component_at t i) k) (h.of j k e z c));
-      is = λ k e.
-          by_bool (has all k)
-          (λ y. h.is k y)
-          (λ z. (
-            i,
-            h.within i (lowest_has rest i h.low more at),
-            sym (member k ∙ ap (λ (b : Bool). b || has (component_at t i) k) z) ∙ e,
-          ));
-    }
-  where
-    member : (k : ℕ) → has all' k ≡ (has all k || has (component_at t i) k)
-    member k = ap (λ (x : ℕ). has x k) new ∙ has_or all (component_at t i) k
+module _ {t : List ℕ} {m all rest : ℕ} (h : Joining t m all rest) where
+  pub joining_more : {all' rest' i : ℕ} → Turn rest rest' i → ((k : ℕ) → k < most → component_at t k < 2 ^ most)
+      → all' ≡ bit_or all (component_at t i) → Joining t m all' rest'
+  joining_more {all'} {rest'} {i} turn lows new =
+      record {
+        all_low = rw new (or_lt most all (component_at t i) h.all_low (lows i turn.below));
+        low = turn.low;
+        within = λ k e. h.within k (turn_has turn k e);
+        of = λ j k e n c.
+            by_cases
+            (ℕ_discrete j i)
+            (λ q.
+            member k ∙ ap (λ (b : Bool). has all k || b) (ap (λ (x : ℕ). has (component_at t x) k) (sym q) ∙ c)
+            ∙ or-true (has all k))
+            (λ ne.
+            member k ∙ ap (λ (b : Bool). b || has (component_at t i) k) (h.of j k e (sym (turn.others j ne) ∙ n) c));
+        is = λ k e.
+            by_bool (has all k)
+            (λ y. h.is k y)
+            (λ z. (
+              i,
+              h.within i turn.there,
+              sym (member k ∙ ap (λ (b : Bool). b || has (component_at t i) k) z) ∙ e,
+            ));
+      }
+    where
+      member : (k : ℕ) → has all' k ≡ (has all k || has (component_at t i) k)
+      member k = ap (λ (x : ℕ). has x k) new ∙ has_or all (component_at t i) k
 
-pub joining_all : (t : List ℕ) (m all rest : ℕ) → rest ≡ 0 → Joining t m all rest → Joined t m all
-joining_all t m all rest none h =
-    record {
-      low = h.all_low;
-      of = λ i k e c. h.of i k e (ap (λ (x : ℕ). has x i) none ∙ has_none i) c;
-      is = h.is;
-    }
+  pub joining_all : rest ≡ 0 → Joined t m all
+  joining_all none =
+      record {
+        low = h.all_low;
+        of = λ i k e c. h.of i k e (ap (λ (x : ℕ). has x i) none ∙ has_none i) c;
+        is = h.is;
+      }
 
 -- ---- a set becomes the component of its members
 
@@ -124,7 +119,7 @@ merging_none acts t are alone =
     }
 
 -- Those that hold units of resource n have their components joined.
-module _ (t : List ℕ) (n : ℕ) (l : List ℕ) (on all : ℕ) (r : List ℕ) (acts_few : acts_of t ≤ most)
+module _ {t : List ℕ} {n : ℕ} {l : List ℕ} {on all : ℕ} {r : List ℕ} (acts_few : acts_of t ≤ most)
     (known : n < most_resources) (h : Merging t n l) (users : Passing (acts_of t) (λ i. ltb 0 (units_at l i n)) on)
     (joined : Joined l on all) (stored : Merged l all r) where
   abbrev comp : ℕ → ℕ
@@ -224,10 +219,10 @@ module _ (t : List ℕ) (n : ℕ) (l : List ℕ) (on all : ℕ) (r : List ℕ) (
         behind = λ at b. stored.behind at b ∙ h.behind at b;
       }
 
-pub merging_all : (t : List ℕ) (n : ℕ) (l : List ℕ) → n ≡ resources_of t → Merging t n l
+pub merging_all : {t : List ℕ} {n : ℕ} {l : List ℕ} → Merging t n l → n ≡ resources_of t
     → Filled t component_from most (IsComponent t) l
 unfolding project_in
-merging_all t n l e h =
+merging_all {t} {n} {l} h e =
     record {
       long = h.long;
       new = λ i b.

@@ -20,12 +20,13 @@ use Rattle.instance.specs.Steps.{Filled, Counted, Grouped, IsClash}
 use Rattle.instance.proofs.Components.{component_same}
 
 pub record SameUnits (t r : List ℕ) : Type 0 where
+  pub acts_few : acts_of t ≤ most
+  pub resources_few : resources_of t ≤ most_resources
   pub acts : acts_of r ≡ acts_of t
   pub resources : resources_of r ≡ resources_of t
   pub held : (at : ℕ) → units_from ≤ at → at < resources_cell → get_or r at 0 ≡ get_or t at 0
 
-module _ (t r : List ℕ) (acts_few : acts_of t ≤ most) (resources_few : resources_of t ≤ most_resources)
-    (s : SameUnits t r) where
+module _ {t r : List ℕ} (s : SameUnits t r) where
   pub units_same : (i q : ℕ) → i < most → q < most_resources → units_at r i q ≡ units_at t i q
   units_same i q b d = s.held (units_from + most_resources * i + q) (omega arith) (omega arith)
 
@@ -37,7 +38,7 @@ module _ (t r : List ℕ) (acts_few : acts_of t ≤ most) (resources_few : resou
   own_same i =
       ap (λ (n : ℕ). component_below (project_in r) n i) s.resources
       ∙ component_same (project_in t) (project_in r) s.acts (resources_of t)
-      (λ k q b d. units_same k q (omega arith) (omega arith))
+      (λ k q b d. units_same k q (omega (arith, s.acts_few)) (omega (arith, s.resources_few)))
       i
 
   fit_same : (i k : ℕ) → i < most → k < most → fit_together r i k ≡ fit_together t i k
@@ -47,8 +48,8 @@ module _ (t r : List ℕ) (acts_few : acts_of t ≤ most) (resources_few : resou
       ∙ every_same (resources_of t) (λ q. leb (units_at r i q + units_at r k q) (capacity_at r q))
       (λ q. leb (units_at t i q + units_at t k q) (capacity_at t q))
       (λ q l.
-      ap₂ leb (ap₂ ◌+◌ (units_same i q b (omega arith)) (units_same k q d (omega arith)))
-      (capacity_same q (omega arith)))
+      let few : q < most_resources = omega (arith, s.resources_few) in
+      ap₂ leb (ap₂ ◌+◌ (units_same i q b few) (units_same k q d few)) (capacity_same q few))
 
   pub component_test : (i k : ℕ)
       → (ltb k (acts_of r) && eqb (own_of r k) (own_of r i)) ≡ (ltb k (acts_of t) && eqb (own_of t k) (own_of t i))
@@ -63,13 +64,13 @@ module _ (t r : List ℕ) (acts_few : acts_of t ≤ most) (resources_few : resou
       ∙ by_bool (ltb k (acts_of t))
       (λ y.
       ap (λ (f : Bool). ltb k (acts_of t) && not (eqb i k) && not f)
-      (fit_same i k b (omega (arith, ltb-true k (acts_of t) y))))
+      (fit_same i k b (omega (arith, s.acts_few, ltb-true k (acts_of t) y))))
       (λ z.
       ap (λ (l : Bool). l && not (eqb i k) && not (fit_together r i k)) z
       ∙ sym (ap (λ (l : Bool). l && not (eqb i k) && not (fit_together t i k)) z))
 
-  pub clash_same : (i x : ℕ) → i < most → IsClash r i x → IsClash t i x
-  clash_same i x b h = record { low = h.low; member = λ k. h.member k ∙ clash_test i k b }
+  pub clash_same : {i x : ℕ} → i < most → IsClash r i x → IsClash t i x
+  clash_same {i} {x} b h = record { low = h.low; member = λ k. h.member k ∙ clash_test i k b }
 
   abbrev apart : List ℕ → ℕ → ℕ → ℕ → Bool
   apart u c j k = (eqb (own_of u j) c && eqb (own_of u k) c && not (eqb j k)) implies not (fit_together u j k)
@@ -78,7 +79,7 @@ module _ (t r : List ℕ) (acts_few : acts_of t ≤ most) (resources_few : resou
   apart_same c j k b d =
       ap₂ ◌implies◌
       (ap₂ (λ (x y : ℕ). eqb x c && eqb y c && not (eqb j k)) (own_same j) (own_same k))
-      (ap not (fit_same j k (omega arith) (omega arith)))
+      (ap not (fit_same j k (omega (arith, s.acts_few)) (omega (arith, s.acts_few))))
 
   tight_same : (c : ℕ) → is_tight r c ≡ is_tight t c
   unfolding is_tight
@@ -92,8 +93,8 @@ module _ (t r : List ℕ) (acts_few : acts_of t ≤ most) (resources_few : resou
   tight_test i =
       ap₂ (λ (n : ℕ) (b : Bool). ltb i n && b) s.acts (ap (is_tight r) (own_same i) ∙ tight_same (own_of t i))
 
-  pub counted_same : (acts resources : ℕ) → length r ≡ length t → Counted acts resources t → Counted acts resources r
-  counted_same acts resources long h =
+  pub counted_same : {acts resources : ℕ} → length r ≡ length t → Counted acts resources t → Counted acts resources r
+  counted_same {acts} {resources} long h =
       record {
         size = long ∙ h.size;
         acts_are = s.acts ∙ h.acts_are;
@@ -103,12 +104,12 @@ module _ (t r : List ℕ) (acts_few : acts_of t ≤ most) (resources_few : resou
         units_few = λ i q b d. omega (arith, units_same i q b d, h.units_few i q b d);
       }
 
-  pub grouped_same : (acts resources : ℕ) → length r ≡ length t
+  pub grouped_same : {acts resources : ℕ} → length r ≡ length t
       → ((i : ℕ) → i < most → component_at r i ≡ component_at t i) → Grouped acts resources t → Grouped acts resources r
-  grouped_same acts resources long column h =
+  grouped_same {acts} {resources} long column h =
       let counted = h.counted in
       record {
-        counted = counted_same acts resources long counted;
+        counted = counted_same long counted;
         alone = λ i q b d.
             omega (
               arith,
@@ -126,18 +127,22 @@ module _ (t r : List ℕ) (acts_few : acts_of t ≤ most) (resources_few : resou
             };
       }
 
-pub filled_same : (t : List ℕ) (from n : ℕ) (P : ℕ → ℕ → Type 0) (r : List ℕ) → from + n ≤ units_from
-    → Filled t from n P r → SameUnits t r
-filled_same t from n P r h filled =
+pub filled_same : {acts resources : ℕ} {t : List ℕ} {from n : ℕ} {P : ℕ → ℕ → Type 0} {r : List ℕ}
+    → Counted acts resources t → Filled t from n P r → from + n ≤ units_from → SameUnits t r
+filled_same {acts} {resources} {t} {from} {n} {P} {r} counted filled h =
     record {
+      acts_few = omega (arith, counted.acts_are, counted.acts_few);
+      resources_few = omega (arith, counted.resources_are, counted.resources_few);
       acts = filled.behind acts_cell (omega arith);
       resources = filled.behind resources_cell (omega arith);
       held = λ at b d. filled.behind at (omega arith);
     }
 
-pub same_joined : (t u r : List ℕ) → SameUnits t u → SameUnits u r → SameUnits t r
-same_joined t u r first last =
+pub same_joined : {t u r : List ℕ} → SameUnits t u → SameUnits u r → SameUnits t r
+same_joined first last =
     record {
+      acts_few = first.acts_few;
+      resources_few = first.resources_few;
       acts = last.acts ∙ first.acts;
       resources = last.resources ∙ first.resources;
       held = λ at b d. last.held at b d ∙ first.held at b d;

@@ -26,7 +26,7 @@ pub cells_long : (t : List ℕ) (present number cap link : ℕ) → length t ≡
     → length (with_cells t present number cap link) ≡ words
 cells_long t present number cap link h = simp length-set h
 
-module _ (t : List ℕ) (present : ℕ) (preds : List ℕ) (number cap link : ℕ) (two three : List ℕ)
+module _ {t : List ℕ} {present : ℕ} {preds : List ℕ} (number cap link : ℕ) {two three : List ℕ}
     (chosen : Chosen t present preds)
     (before : Filled (with_cells t present number cap link) preds_from most (λ i x. x ≡ get_or preds i 0) two)
     (unlinked : Filled two next_from (2 * width) (λ i x. x ≡ 0) three) where
@@ -88,7 +88,7 @@ module _ (t : List ℕ) (present : ℕ) (preds : List ℕ) (number cap link : �
             ∙ unlinked.new (width + i) (omega arith);
       }
 
-  module _ (r : List ℕ) (links : Links three r) where
+  module _ {r : List ℕ} (links : Links three r) where
     cell : (at : ℕ) → component_from ≤ at → get_or r at 0 ≡ get_or (with_cells t present number cap link) at 0
     cell at b = links.behind at b ∙ unlinked.behind at (omega arith) ∙ before.behind at (omega arith)
 

@@ -1,7 +1,9 @@
 -- The table is whole: its numbers are in range, and its columns say what they are to say.
-use Rattle.std.specs.Prelude.{ℕ, ◌+◌, ◌*◌, ◌^◌, ◌≤◌, ◌<◌, Bool, true, false, not, ◌&&◌, List, ◌≡◌, leb, ltb, eqb, length, get_or}
+use Rattle.std.specs.Prelude.{ℕ, ◌+◌, ◌^◌, ◌≤◌, ◌<◌, Bool, true, false, not, ◌&&◌, List, [], ◌≡◌, leb, ltb, eqb, length, get_or}
 use Rattle.base.specs.Below.{every_below, ◌implies◌}
 use Rattle.plan.specs.Limits.{most_resources, longest_duration, word_values}
+use Rattle.plan.specs.declared.Activity.{Activity}
+use Rattle.plan.specs.declared.Tables.{Tables}
 use Rattle.sets.specs.Sets.{most, has}
 use Rattle.scan.specs.Components.{component_of}
 use Rattle.instance.specs.Table.{most_count, words, duration_at, preds_at, next_at, near_at, component_at, clash_at}
@@ -69,24 +71,30 @@ pub record Instance (t : List ℕ) : Type 0 where
   pub cap : cap_of t < word_values
   pub variant : variant_of t < word_values
 
--- What the table is laid out from: row i of the units begins at most_resources * i.
-pub record Given (acts resources : ℕ) (duration units capacity : List ℕ) : Type 0 where
-  pub acts_few : acts ≤ most
-  pub resources_few : resources ≤ most_resources
-  pub long : (i : ℕ) → i < acts → 1 ≤ get_or duration i 0
-  pub short : (i : ℕ) → i < acts → get_or duration i 0 ≤ longest_duration
-  pub alone : (i r : ℕ) → i < acts → r < resources → get_or units (most_resources * i + r) 0 ≤ get_or capacity r 0
-  pub capacities : (r : ℕ) → r < resources → get_or capacity r 0 ≤ most_count
+-- Activity i of the plan's tables.
+abbrev pub no_row : Activity
+no_row = record { duration = 0; units = [] }
+
+abbrev pub row_of : Tables → ℕ → Activity
+row_of tables i = get_or tables.activity i no_row
+
+-- What the table is laid out from is in range.
+pub record Given (tables : Tables) : Type 0 where
+  pub long : (i : ℕ) → i < tables.acts → 1 ≤ (row_of tables i).duration
+  pub short : (i : ℕ) → i < tables.acts → (row_of tables i).duration ≤ longest_duration
+  pub alone : (i r : ℕ) → i < tables.acts → r < tables.resources
+      → get_or (row_of tables i).units r 0 ≤ get_or tables.capacity r 0
+  pub capacities : (r : ℕ) → r < tables.resources → get_or tables.capacity r 0 ≤ most_count
 
 -- The table is laid out and holds what was given.
-pub record LaidFrom (acts resources : ℕ) (duration units capacity t : List ℕ) : Type 0 where
+pub record LaidFrom (tables : Tables) (t : List ℕ) : Type 0 where
   pub laid : Laid t
-  pub acts_are : acts_of t ≡ acts
-  pub resources_are : resources_of t ≡ resources
-  pub durations : (i : ℕ) → i < acts → duration_at t i ≡ get_or duration i 0
-  pub idle : (i : ℕ) → acts ≤ i → i < most → duration_at t i ≡ 0
-  pub held : (i r : ℕ) → i < acts → r < resources → units_at t i r ≡ get_or units (most_resources * i + r) 0
-  pub capacity_is : (r : ℕ) → r < resources → capacity_at t r ≡ get_or capacity r 0
+  pub acts_are : acts_of t ≡ tables.acts
+  pub resources_are : resources_of t ≡ tables.resources
+  pub durations : (i : ℕ) → i < tables.acts → duration_at t i ≡ (row_of tables i).duration
+  pub idle : (i : ℕ) → tables.acts ≤ i → i < most → duration_at t i ≡ 0
+  pub held : (i r : ℕ) → i < tables.acts → r < tables.resources → units_at t i r ≡ get_or (row_of tables i).units r 0
+  pub capacity_is : (r : ℕ) → r < tables.resources → capacity_at t r ≡ get_or tables.capacity r 0
 
 -- A variant for the table t: its activities and the predecessors of each.
 pub record Chosen (t : List ℕ) (present : ℕ) (preds : List ℕ) : Type 0 where

@@ -1,12 +1,13 @@
 -- What the contracts of the steps towards the table say.
-use Rattle.std.specs.Prelude.{ℕ, ◌+◌, ◌*◌, ◌^◌, ◌≤◌, ◌<◌, Bool, true, false, cond, not, ◌&&◌, List, ◌≢◌, ◌≡◌, ltb, eqb, length, get_or}
+use Rattle.std.specs.Prelude.{ℕ, ◌+◌, ◌^◌, ◌≤◌, ◌<◌, Bool, true, false, cond, not, ◌&&◌, List, ◌≢◌, ◌≡◌, ltb, eqb, length, get_or}
 use Rattle.std.specs.Int.Bits.{bit_or}
 use Rattle.plan.specs.Limits.{most_resources}
+use Rattle.plan.specs.declared.Tables.{Tables}
 use Rattle.sets.specs.Sets.{most, has}
-use Rattle.instance.specs.Table.{most_count, words, next_from, near_from, component_from, units_from}
+use Rattle.instance.specs.Table.{most_count, words, next_from, near_from, component_from, units_from, capacity_from}
 use Rattle.instance.specs.Table.{duration_at, preds_at, next_at, near_at, component_at, clash_at, units_at, capacity_at}
 use Rattle.instance.specs.Table.{resources_of, acts_of}
-use Rattle.instance.specs.Instance.{Linked, own_of, fit_together}
+use Rattle.instance.specs.Instance.{Linked, own_of, row_of, fit_together}
 
 -- The set x with i where a test holds.
 abbrev pub with_if : Bool → ℕ → ℕ → ℕ
@@ -24,15 +25,25 @@ pub record Filled (t : List ℕ) (from n : ℕ) (P : ℕ → ℕ → Type 0) (r 
   pub before : (at : ℕ) → at < from → get_or r at 0 ≡ get_or t at 0
   pub behind : (at : ℕ) → from + n ≤ at → get_or r at 0 ≡ get_or t at 0
 
+-- The table t with the units that each of the first n activities holds of the plan's resources.
+pub record Held (t : List ℕ) (tables : Tables) (n : ℕ) (r : List ℕ) : Type 0 where
+  pub long : length r ≡ length t
+  pub units : (i q : ℕ) → i < most → q < most_resources
+      → units_at r i q
+      ≡ cond (ltb i n && ltb q tables.resources) (get_or (row_of tables i).units q 0) (units_at t i q)
+  pub before : (at : ℕ) → at < units_from → get_or r at 0 ≡ get_or t at 0
+  pub behind : (at : ℕ) → capacity_from ≤ at → get_or r at 0 ≡ get_or t at 0
+
 -- What was given, in its columns; 0 stands for what is past the counts, and in the columns to come.
-pub record Columns (acts resources : ℕ) (duration units capacity t : List ℕ) : Type 0 where
+pub record Columns (tables : Tables) (t : List ℕ) : Type 0 where
   pub size : length t ≡ words
-  pub acts_are : acts_of t ≡ acts
-  pub resources_are : resources_of t ≡ resources
-  pub durations : (i : ℕ) → i < most → duration_at t i ≡ cond (ltb i acts) (get_or duration i 0) 0
+  pub acts_are : acts_of t ≡ tables.acts
+  pub resources_are : resources_of t ≡ tables.resources
+  pub durations : (i : ℕ) → i < most → duration_at t i ≡ cond (ltb i tables.acts) (row_of tables i).duration 0
   pub held : (i r : ℕ) → i < most → r < most_resources
-      → units_at t i r ≡ cond (ltb i acts && ltb r resources) (get_or units (most_resources * i + r) 0) 0
-  pub capacities : (r : ℕ) → r < most_resources → capacity_at t r ≡ cond (ltb r resources) (get_or capacity r 0) 0
+      → units_at t i r ≡ cond (ltb i tables.acts && ltb r tables.resources) (get_or (row_of tables i).units r 0) 0
+  pub capacities : (r : ℕ) → r < most_resources
+      → capacity_at t r ≡ cond (ltb r tables.resources) (get_or tables.capacity r 0) 0
   pub blank : (at : ℕ) → component_from ≤ at → at < units_from → get_or t at 0 ≡ 0
 
 -- A table with its counts and units, which are in range.

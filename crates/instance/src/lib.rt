@@ -2,17 +2,17 @@
 // variant.
 #![tactic(auto)]
 
-ghost use Rattle.std.specs.Prelude.{cond, ◌≡◌, ℕ, ◌+◌, ◌*◌, ◌%◌, ◌^◌, ◌≤◌, ◌<◌, ltb, length, get_or};
+ghost use Rattle.std.specs.Prelude.{cond, ◌≡◌, ℕ, ◌+◌, ◌*◌, ◌^◌, ◌≤◌, ◌<◌, ltb, length, get_or};
 ghost use Rattle.plan.specs.Limits.{most_resources};
 ghost use Rattle.sets.specs.Sets.{most, has, width};
-ghost use Rattle.instance.specs.Table.{words, preds_from, next_from, component_from, clash_from, units_from};
+ghost use Rattle.instance.specs.Table.{words, preds_from, next_from, component_from, clash_from};
 ghost use Rattle.instance.specs.Table.{capacity_from, component_at, units_at, resources_of, acts_of};
-ghost use Rattle.instance.specs.Instance.{fit_together, is_tight, own_of, Given, LaidFrom, Chosen, Placed};
-ghost use Rattle.instance.specs.Steps.{with_if, Passing, Filled, Columns, Counted, Joined, IsComponent};
+ghost use Rattle.instance.specs.Instance.{fit_together, is_tight, own_of, row_of, Given, LaidFrom, Chosen, Placed};
+ghost use Rattle.instance.specs.Steps.{Passing, Filled, Held, Columns, Counted, Joined, IsComponent};
 ghost use Rattle.instance.specs.Steps.{IsClash, Grouped, Apart, AllClash, Nearest, LinkedNext, Blank, Links};
 
-use plan::{MOST_ACTS, MOST_RESOURCES};
-use sets::{WIDTH, after_lowest, lowest};
+use plan::{MOST_ACTS, MOST_RESOURCES, Tables};
+use sets::{WIDTH, activities};
 
 // Where the columns begin: the predecessors of each activity, those that have it as a nearest predecessor, its nearest
 // predecessors, which precede no other of its predecessors, its component, and those that can never run together with
@@ -31,7 +31,7 @@ pub const CLASH: usize = 5 * WIDTH;
 pub const UNITS: usize = 6 * WIDTH;
 
 // The units of one activity.
-pub const ROW: usize = MOST_RESOURCES as usize;
+pub const ROW: usize = MOST_RESOURCES;
 
 pub const CAPACITY: usize = UNITS + ROW * WIDTH;
 
@@ -53,9 +53,6 @@ pub const WORDS: usize = RESOURCES + 7;
 
 pub type Table = [u32; WORDS];
 
-// The units of every activity of a plan.
-pub const CELLS: usize = ROW * MOST_ACTS;
-
 // What activity i holds of resource r.
 pub fn units_of(table: &Table, i: usize, r: usize) -> u32
     requires { (i < most) × (r < most_resources) }
@@ -64,86 +61,47 @@ pub fn units_of(table: &Table, i: usize, r: usize) -> u32
     table[UNITS + ROW * i + r]
 }
 
-// The set with i where a test holds.
-fn with_if(set: u32, i: usize, test: bool) -> u32
-    requires { i < most }
-    ensures { result ≡ with_if test set i }
-{
-    if test {
-        sets::union(set, sets::single(i))
-    } else {
-        set
-    }
-}
-
-fn wide(duration: u16) -> u32
-    ensures { result ≡ duration }
-{
-    duration as u32
-}
-
-// A count of resource r, and 0 where the plan has no such resource.
-fn known(count: u8, r: usize, resources: usize) -> u32
-    ensures { result ≡ cond (ltb r resources) count 0 }
-{
-    if r < resources { count as u32 } else { 0 }
-}
-
-fn fill_durations(table: &mut Table, acts: usize, duration: &[u16; MOST_ACTS])
-    requires { (length table.old ≡ words) × (acts ≤ most) }
-    ensures { Filled table.old 0 acts (λ i x. x ≡ get_or duration.now i 0) table.new }
-{
-    let mut i = 0;
-    while i < acts {
-        table[i] = wide(duration[i]);
-        i += 1;
-    }
-}
-
-fn fill_units(table: &mut Table, acts: usize, resources: usize, units: &[u8; CELLS])
-    requires { (length table.old ≡ words) × (acts ≤ most) }
-    ensures { Filled table.old units_from (most_resources * acts)
-        (λ k x. x ≡ cond (ltb (k % most_resources) resources) (get_or units.now k 0) 0)
-        table.new }
-{
-    let cells = ROW * acts;
-    let mut k = 0;
-    while k < cells {
-        table[UNITS + k] = known(units[k], k % ROW, resources);
-        k += 1;
-    }
-}
-
-fn fill_capacities(table: &mut Table, resources: usize, capacity: &[u8; ROW])
+fn fill_durations(table: &mut Table, tables: &Tables)
     requires { length table.old ≡ words }
-    ensures { Filled table.old capacity_from most_resources
-        (λ r x. x ≡ cond (ltb r resources) (get_or capacity.now r 0) 0)
-        table.new }
+    ensures { Filled table.old 0 tables.now.acts (λ i x. x ≡ (row_of tables.now i).duration) table.new }
 {
-    let mut r = 0;
-    while r < ROW {
-        table[CAPACITY + r] = known(capacity[r], r, resources);
-        r += 1;
+    for i in 0..tables.acts {
+        table[i] = u32::from(tables.activity[i].duration);
     }
 }
 
-// What was given, in the table's columns.
-fn columns(
-    acts: usize,
-    resources: usize,
-    duration: &[u16; MOST_ACTS],
-    units: &[u8; CELLS],
-    capacity: &[u8; ROW],
-) -> Table
-    requires { (acts ≤ most) × (resources ≤ most_resources) }
-    ensures { Columns acts resources duration.now units.now capacity.now result }
+fn fill_units(table: &mut Table, tables: &Tables)
+    requires { length table.old ≡ words }
+    ensures { Held table.old tables.now tables.now.acts table.new }
+{
+    for i in 0..tables.acts {
+        for r in 0..tables.resources {
+            table[UNITS + ROW * i + r] = u32::from(tables.activity[i].units[r]);
+        }
+    }
+}
+
+fn fill_capacities(table: &mut Table, tables: &Tables)
+    requires { length table.old ≡ words }
+    ensures { Filled table.old capacity_from tables.now.resources
+        (λ r x. x ≡ get_or tables.now.capacity r 0)
+        table.new }
+{
+    for r in 0..tables.resources {
+        table[CAPACITY + r] = u32::from(tables.capacity[r]);
+    }
+}
+
+// What the plan's tables hold, in the table's columns.
+fn columns(tables: &Tables) -> Table
+    ensures { Columns tables.now result }
 {
     let mut table = [0; WORDS];
-    table[ACTS] = acts as u32;
-    table[RESOURCES] = resources as u32;
-    fill_durations(&mut table, acts, duration);
-    fill_units(&mut table, acts, resources, units);
-    fill_capacities(&mut table, resources, capacity);
+    table[ACTS] = tables.acts as u32;
+    table[RESOURCES] = tables.resources as u32;
+    fill_durations(&mut table, tables);
+    fill_units(&mut table, tables);
+    fill_capacities(&mut table, tables);
     table
 }
 
@@ -152,10 +110,8 @@ fn part(table: &mut Table, acts: usize)
     requires { (length table.old ≡ words) × (acts ≤ most) }
     ensures { Filled table.old component_from acts (λ i x. x ≡ 2 ^ i) table.new }
 {
-    let mut i = 0;
-    while i < acts {
+    for i in 0..acts {
         table[COMPONENT + i] = sets::single(i);
-        i += 1;
     }
 }
 
@@ -165,11 +121,10 @@ fn users(table: &Table, acts: usize, r: usize) -> u32
     ensures { Passing acts (λ i. ltb 0 (units_at table.now i r)) result }
 {
     let mut set = 0;
-    let mut i = 0;
-    while i < acts {
-        let held = units_of(table, i, r);
-        set = with_if(set, i, held > 0);
-        i += 1;
+    for i in 0..acts {
+        if units_of(table, i, r) > 0 {
+            set = sets::union(set, sets::single(i));
+        }
     }
     set
 }
@@ -180,11 +135,8 @@ fn joined(table: &Table, set: u32) -> u32
     ensures { Joined table.now set result }
 {
     let mut all = 0;
-    let mut rest = set;
-    while rest != 0 {
-        let i = lowest(rest);
+    for i in activities(set) {
         all = sets::union(all, table[COMPONENT + i]);
-        rest = after_lowest(rest);
     }
     all
 }
@@ -196,11 +148,8 @@ fn merge(table: &mut Table, set: u32)
         (λ i x. x ≡ cond (has set i) set (component_at table.old i))
         table.new }
 {
-    let mut rest = set;
-    while rest != 0 {
-        let i = lowest(rest);
+    for i in activities(set) {
         table[COMPONENT + i] = set;
-        rest = after_lowest(rest);
     }
 }
 
@@ -210,12 +159,10 @@ fn merge_all(table: &mut Table, acts: usize, resources: usize)
         × ((i : ℕ) → i < most → component_at table.old i ≡ cond (ltb i acts) (2 ^ i) 0) }
     ensures { Filled table.old component_from most (IsComponent table.old) table.new }
 {
-    let mut r = 0;
-    while r < resources {
+    for r in 0..resources {
         let on = users(table, acts, r);
         let all = joined(table, on);
         merge(table, all);
-        r += 1;
     }
 }
 
@@ -226,18 +173,10 @@ fn fit(table: &Table, resources: usize, i: usize, k: usize) -> bool
         × (k < acts_of table.now) }
     ensures { result ≡ fit_together table.now i k }
 {
-    if !sets::contains(table[COMPONENT + i], k) {
-        return true;
-    }
-    let mut r = 0;
-    while r < resources {
-        let held = units_of(table, i, r) + units_of(table, k, r);
-        if held > table[CAPACITY + r] {
-            return false;
-        }
-        r += 1;
-    }
-    true
+    !sets::contains(table[COMPONENT + i], k)
+        || (0..resources).all(|r| {
+            units_of(table, i, r) + units_of(table, k, r) <= table[CAPACITY + r]
+        })
 }
 
 // Those that can never run together with i.
@@ -246,24 +185,20 @@ fn clashing(table: &Table, acts: usize, resources: usize, i: usize) -> u32
     ensures { IsClash table.now i result }
 {
     let mut set = 0;
-    let mut k = 0;
-    while k < acts {
-        let fits = fit(table, resources, i, k);
-        set = with_if(set, k, !fits);
-        k += 1;
+    for k in 0..acts {
+        if k != i && !fit(table, resources, i, k) {
+            set = sets::union(set, sets::single(k));
+        }
     }
-    sets::minus(set, sets::single(i))
+    set
 }
 
 fn clash_all(table: &mut Table, acts: usize, resources: usize)
     requires { Grouped acts resources table.old }
     ensures { Filled table.old clash_from acts (IsClash table.old) table.new }
 {
-    let mut i = 0;
-    while i < acts {
-        let set = clashing(table, acts, resources, i);
-        table[CLASH + i] = set;
-        i += 1;
+    for i in 0..acts {
+        table[CLASH + i] = clashing(table, acts, resources, i);
     }
 }
 
@@ -272,13 +207,10 @@ fn all_clash(table: &Table, set: u32) -> bool
     requires { set < 2 ^ most }
     ensures { AllClash table.now set result }
 {
-    let mut left = set;
-    while left != 0 {
-        let i = lowest(left);
+    for i in activities(set) {
         if sets::minus(set, sets::union(table[CLASH + i], sets::single(i))) != 0 {
             return false;
         }
-        left = after_lowest(left);
     }
     true
 }
@@ -289,33 +221,24 @@ fn tight(table: &Table, acts: usize) -> u32
     ensures { Passing acts (λ i. is_tight table.now (own_of table.now i)) result }
 {
     let mut set = 0;
-    let mut i = 0;
-    while i < acts {
-        let component = table[COMPONENT + i];
-        let clash = all_clash(table, component);
-        set = with_if(set, i, clash);
-        i += 1;
+    for i in 0..acts {
+        if all_clash(table, table[COMPONENT + i]) {
+            set = sets::union(set, sets::single(i));
+        }
     }
     set
 }
 
 // The table of a plan, with no variant in it yet.
-pub fn laid(
-    acts: usize,
-    resources: usize,
-    duration: &[u16; MOST_ACTS],
-    units: &[u8; CELLS],
-    capacity: &[u8; ROW],
-) -> Table
-    requires { Given acts resources duration.now units.now capacity.now }
-    ensures { LaidFrom acts resources duration.now units.now capacity.now result }
+pub fn laid(tables: &Tables) -> Table
+    requires { Given tables.now }
+    ensures { LaidFrom tables.now result }
 {
-    let mut table = columns(acts, resources, duration, units, capacity);
-    part(&mut table, acts);
-    merge_all(&mut table, acts, resources);
-    clash_all(&mut table, acts, resources);
-    let set = tight(&table, acts);
-    table[TIGHT] = set;
+    let mut table = columns(tables);
+    part(&mut table, tables.acts);
+    merge_all(&mut table, tables.acts, tables.resources);
+    clash_all(&mut table, tables.acts, tables.resources);
+    table[TIGHT] = tight(&table, tables.acts);
     table
 }
 
@@ -323,11 +246,7 @@ fn fill_preds(table: &mut Table, preds: &[u32; MOST_ACTS])
     requires { length table.old ≡ words }
     ensures { Filled table.old preds_from most (λ i x. x ≡ get_or preds.now i 0) table.new }
 {
-    let mut i = 0;
-    while i < MOST_ACTS {
-        table[PREDS + i] = preds[i];
-        i += 1;
-    }
+    table[PREDS..PREDS + MOST_ACTS].copy_from_slice(preds);
 }
 
 // The columns of links, with no link.
@@ -335,11 +254,7 @@ fn unlink(table: &mut Table)
     requires { length table.old ≡ words }
     ensures { Filled table.old next_from (2 * width) (λ i x. x ≡ 0) table.new }
 {
-    let mut i = 0;
-    while i < 2 * WIDTH {
-        table[NEXT + i] = 0;
-        i += 1;
-    }
+    table[NEXT..COMPONENT].fill(0);
 }
 
 // The members of a set that precede no other of its members.
@@ -348,11 +263,8 @@ fn nearest(table: &Table, set: u32) -> u32
     ensures { Nearest table.now set result }
 {
     let mut near = set;
-    let mut rest = set;
-    while rest != 0 {
-        let i = lowest(rest);
+    for i in activities(set) {
         near = sets::minus(near, table[PREDS + i]);
-        rest = after_lowest(rest);
     }
     near
 }
@@ -362,11 +274,8 @@ fn link(table: &mut Table, set: u32, j: usize)
     requires { (length table.old ≡ words) × (set < 2 ^ most) × (j < most) }
     ensures { LinkedNext table.old set j table.new }
 {
-    let mut rest = set;
-    while rest != 0 {
-        let i = lowest(rest);
+    for i in activities(set) {
         table[NEXT + i] = sets::union(table[NEXT + i], sets::single(j));
-        rest = after_lowest(rest);
     }
 }
 
@@ -375,13 +284,10 @@ fn link_all(table: &mut Table, acts: usize)
     requires { Blank acts table.old }
     ensures { Links table.old table.new }
 {
-    let mut j = 0;
-    while j < acts {
-        let preds = table[PREDS + j];
-        let near = nearest(table, preds);
+    for j in 0..acts {
+        let near = nearest(table, table[PREDS + j]);
         table[NEAR + j] = near;
         link(table, near, j);
-        j += 1;
     }
 }
 

@@ -1,34 +1,21 @@
 -- What the parser's answer says of a file.
 use Prim.Native.Nat.{ℕ}
 use mathlib.Core.List.{List}
-use mathlib.Core.Path.{◌≡◌, sym, ap, ◌∙◌}
-use Rattle.plan.specs.Plan.{plan_of, Sized}
+use mathlib.Core.Path.{◌≡◌, sym}
+use Rattle.plan.specs.Plan.{plan_of, Ranged}
 use Rattle.plan.specs.declared.Refusal.{Refusal}
 use Rattle.plan.specs.declared.Tables.{Tables}
-use Rattle.format.specs.Parse.{Result, holds, refuses, parse}
+use Rattle.std.specs.Prelude.{Ok, Err}
+use Rattle.format.specs.Parse.{holds, refuses, parse}
 use Rattle.format.proofs.Format.{parse_text}
 use Rattle.parser.specs.Answer.{Answers}
-use Rattle.parser.specs.declared.Parsed.{Parsed}
-use Rattle.parser.specs.declared.Verdict.{Verdict}
-use Rattle.parser.specs.declared.Verdict.TheVariants.{Accepted, Refused}
-use Rattle.judge.specs.Campaign.{Ranged}
 
-abbrev result_by : Tables → Verdict → Result
-result_by tables v = elim v [ Accepted ↦ holds (plan_of tables) | Refused r ↦ refuses r ]
+module _ (s : List ℕ) where
+  pub holds_plan : (t : Tables) → Answers s (Ok t) → parse s ≡ holds (plan_of t)
+  holds_plan t a = sym a.result
 
-module _ (s : List ℕ) (p : Parsed) (a : Answers s p) where
-  pub holds_plan : p.verdict ≡ Accepted → parse s ≡ holds (plan_of p.tables)
-  holds_plan e = sym a.result ∙ ap (result_by p.tables) e
+  pub is_refused : (r : Refusal) → Answers s (Err r) → parse s ≡ refuses r
+  is_refused r a = sym a.result
 
-  pub is_refused : (r : Refusal) → p.verdict ≡ Refused r → parse s ≡ refuses r
-  is_refused r e = sym a.result ∙ ap (result_by p.tables) e
-
-  pub is_ranged_lem : p.verdict ≡ Accepted → Sized p.tables → Ranged p.tables
-  is_ranged_lem e z =
-      record {
-        resources = a.resources e;
-        acts = a.acts e;
-        nodes = a.nodes e;
-        ranges = (parse_text s (plan_of p.tables) (holds_plan e)).0;
-        sized = z;
-      }
+  pub is_ranged : (t : Tables) → Answers s (Ok t) → Ranged t
+  is_ranged t a = record { ranges = (parse_text s (plan_of t) (holds_plan t a)).0; sized = a.sized }

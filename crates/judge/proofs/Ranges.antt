@@ -2,15 +2,16 @@
 use mathlib.Core.Bool.{true}
 use mathlib.Core.Path.{◌≡◌}
 use lib.ListN.{length}
-use Rattle.plan.specs.Limits.{most_acts}
-use Rattle.plan.specs.Plan.{plan_of, is_node}
+use Prim.Native.Nat.{◌≤◌}
+use native.Mathlib.Omega.{arith}
+use Rattle.plan.specs.Limits.{most_acts, most_nodes}
+use Rattle.plan.specs.Plan.{plan_of, is_node, Ranged}
 use Rattle.base.specs.Lists.{every}
 use Rattle.plan.specs.declared.Tables.{Tables}
 use Rattle.format.proofs.Plans.{plan_sound}
-use Rattle.format.proofs.Tables.{act_count, node_count_lem}
+use Rattle.format.proofs.Tables.{act_count, node_count}
 use Rattle.format.proofs.Tests.{between_facts}
 use Rattle.term_reader.proofs.Tables.{every_more}
-use Rattle.judge.specs.Campaign.{Ranged}
 
 pub nodes_ranged : {tables : Tables} → Ranged tables → every (is_node most_acts) (plan_of tables).nodes ≡ true
 nodes_ranged {tables} r =
@@ -22,7 +23,10 @@ nodes_ranged {tables} r =
 module _ (t : Tables) (r : Ranged t) where
   -- The plan has as many activities and nodes as its tables say.
   pub acts_are : length (plan_of t).activities ≡ t.acts
-  acts_are = act_count t r.sized r.acts
+  acts_are = act_count t r.sized.activity
 
   pub nodes_are : length (plan_of t).nodes ≡ t.nodes
-  nodes_are = node_count_lem t r.sized r.nodes
+  nodes_are = node_count t r.sized.node
+
+pub nodes_few : {t : Tables} → Ranged t → length (plan_of t).nodes ≤ most_nodes
+nodes_few {t} r = omega (arith, nodes_are t r, t.nodes_held)

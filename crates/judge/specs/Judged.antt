@@ -1,19 +1,19 @@
--- The judgement as the program gives it: the refusal, or the plan.
-use Rattle.std.specs.Prelude.{List, ◌≡◌, ℕ}
+-- The judgement as the program gives it: the plan, or the refusal.
+use Rattle.std.specs.Prelude.{List, ◌≡◌, ℕ, Result, MatchResult}
 use Rattle.plan.specs.Plan.{plan_of}
 use Rattle.plan.specs.declared.Refusal.{Refusal}
-use Rattle.parser.specs.declared.Verdict.TheVariants.{Accepted, Refused}
 use Rattle.term.specs.Term.{Term}
 use Rattle.judge.specs.Judge.{Verdict, accepts, refuses, judge}
 use Rattle.judge.specs.Campaign.{HoldsPlan}
-use Rattle.judge.specs.declared.Judged.{Judged}
+use Rattle.judge.specs.declared.Campaign.{Campaign}
 
 -- The program's judgement is that verdict.
-pub record Says (v : Verdict) (j : Judged) : Type 0 where
-  pub accepted : j.verdict ≡ Accepted
-      → (t : Term) × (v ≡ accepts (plan_of j.campaign.tables) t) × HoldsPlan j.campaign t
-  pub refused : (r : Refusal) → j.verdict ≡ Refused r → v ≡ refuses r
+abbrev pub Says : Verdict → Result Campaign Refusal → Type 0
+Says v r =
+    MatchResult r
+    (λ c. (t : Term) × (v ≡ accepts (plan_of c.tables) t) × HoldsPlan c t)
+    (λ q. v ≡ refuses q)
 
 -- So it is of a file.
-abbrev pub Judges : List ℕ → Judged → Type 0
-Judges s j = Says (judge s) j
+abbrev pub Judges : List ℕ → Result Campaign Refusal → Type 0
+Judges s r = Says (judge s) r

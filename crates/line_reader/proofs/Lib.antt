@@ -1,4 +1,3 @@
--- Cases, a value in the text, and a form read byte by byte.
-pub mod Cases
+-- The digits at the front of a text, and a form read byte by byte.
 pub mod Values
 pub mod Forms

@@ -1,191 +1,136 @@
-// Reads one line of a text by its form. A position past the end of the text is nowhere: nothing is found there, and
-// what follows it is nowhere too.
+// Reads one line of a text by its form.
 #![tactic(auto)]
 
-ghost use Rattle.std.specs.Prelude.{◌<◌, ◌≡◌, [], ◌∷◌, length, get_or};
-ghost use Rattle.std.proofs.Math.Option.{none};
+ghost use Rattle.std.specs.Prelude.{◌≡◌, ◌≢◌, ◌≤◌, true, [], ◌∷◌, length};
+ghost use Rattle.base.specs.Lists.{every};
 ghost use Rattle.plan.specs.Limits.{most_digits};
 ghost use Rattle.plan.specs.Plan.{is_letter};
-ghost use Rattle.format.specs.Lines.{is_sized};
-ghost use Rattle.line_reader.specs.Seen.{stepped, digits_read, started, seen, advance};
+ghost use Rattle.format.specs.Lines.{is_digit, digits, is_value, decimal};
+ghost use Rattle.line_reader.specs.Seen.{said, started, Gives, advance};
 
-// A run of digits, read as far as `at`.
+// A line that is read in part or whole: its two latest values, and the bytes that follow.
 #[derive(Clone, Copy)]
-struct Digits {
-    at: usize,
-    total: u32,
-}
-
-// A line that is read as far as `next`, with its two latest values.
-#[derive(Clone, Copy)]
-pub struct Line {
-    pub next: usize,
+pub struct Line<'a> {
     pub first: u32,
     pub second: u32,
+    pub rest: &'a [u8],
 }
 
-// A position past the end.
-pub fn nowhere(file: &[u8]) -> usize
-    ensures { length file.now < result }
+fn is_digit(b: u8) -> bool
+    ensures { result ≡ is_digit b }
 {
-    file.len() + 1
+    b'0' <= b && b <= b'9'
 }
 
-// The byte at a position, 0 past the end.
-fn byte(file: &[u8], at: usize) -> u8
-    ensures { result ≡ get_or file.now at 0 }
+// How many digits stand at the front of a text.
+fn digit_count(text: &[u8]) -> usize
+    ensures { result ≡ length (digits text.now) }
 {
-    if at < file.len() { file[at] } else { 0 }
+    text.iter()
+        .position(|b| !is_digit(*b))
+        .unwrap_or(text.len())
 }
 
-fn wide(b: u8) -> u32
-    ensures { result ≡ b }
+// One digit, or several up to five, of which the first is not `0`.
+#[tactic(auto, unfolding(format::specs::Lines::is_value))]
+fn is_value(digits: &[u8]) -> bool
+    ensures { result ≡ is_value digits.now }
 {
-    b as u32
-}
-
-// A digit more, where one stands.
-fn digit(file: &[u8], n: Digits) -> Digits
-    requires { n.total < 100000 }
-    ensures { result ≡ stepped file.now n }
-{
-    let at = n.at;
-    let b = wide(byte(file, at));
-    if ranges::in_range(48, 57, b) {
-        Digits {
-            at: at + 1,
-            total: n.total * 10 + (b - 48),
-        }
-    } else {
-        n
+    match digits {
+        [] => false,
+        [_] => true,
+        [first, ..] => *first != b'0' && digits.len() <= 5,
     }
 }
 
-// The digits from a position on, at most six of them: a value has no more than five.
-fn read_digits(file: &[u8], at: usize) -> Digits
-    ensures { result ≡ digits_read file.now at }
+// The number that digits say.
+fn decimal(digits: &[u8]) -> u32
+    requires { (every is_digit digits.now ≡ true) × (length digits.now ≤ most_digits) }
+    ensures { result ≡ decimal 0 digits.now }
 {
-    let mut n = Digits { at, total: 0 };
-    let mut i: usize = 0;
-    while i < 6 {
-        n = digit(file, n);
-        i += 1;
+    let mut number = 0;
+    for b in digits {
+        number = number * 10 + u32::from(*b - b'0');
     }
-    n
-}
-
-fn is_value(size: usize, first: u8) -> bool
-    ensures { result ≡ is_sized most_digits size first }
-{
-    match size {
-        1 => true,
-        2..=5 => first != b'0',
-        _ => false,
-    }
+    number
 }
 
 fn is_letter(b: u8) -> bool
     ensures { result ≡ is_letter b }
 {
     match b {
-        b'a' => true,
-        b's' => true,
-        b'p' => true,
-        b'x' => true,
+        b'a' | b's' | b'p' | b'x' => true,
         _ => false,
     }
 }
 
-// A line that has not its form.
-fn lost(file: &[u8]) -> Line
-    ensures { seen file.now result ≡ none }
-{
-    Line {
-        next: nowhere(file),
-        first: 0,
-        second: 0,
-    }
-}
-
 // `#` in a form.
-fn value(file: &[u8], line: Line) -> Line
-    ensures { seen file.now result ≡ advance (35 ∷ []) (seen file.now line) }
+fn value(line: Line) -> Option<Line>
+    ensures { Gives result (advance (35 ∷ []) (said line.entry)) }
 {
-    let at = line.next;
-    let n = read_digits(file, at);
-    let size = n.at - at;
-    if is_value(size, byte(file, at)) {
-        Line {
-            next: n.at,
+    let (digits, rest) = line.rest.split_at(digit_count(line.rest));
+    if is_value(digits) {
+        Some(Line {
             first: line.second,
-            second: n.total,
-        }
+            second: decimal(digits),
+            rest,
+        })
     } else {
-        lost(file)
+        None
     }
 }
 
 // `@` in a form.
-fn letter(file: &[u8], line: Line) -> Line
-    ensures { seen file.now result ≡ advance (64 ∷ []) (seen file.now line) }
+fn letter(line: Line) -> Option<Line>
+    ensures { Gives result (advance (64 ∷ []) (said line.entry)) }
 {
-    let at = line.next;
-    let b = byte(file, at);
-    if is_letter(b) {
-        Line {
-            next: at + 1,
+    let (b, rest) = line.rest.split_first()?;
+    if is_letter(*b) {
+        Some(Line {
             first: line.second,
-            second: wide(b),
-        }
+            second: u32::from(*b),
+            rest,
+        })
     } else {
-        lost(file)
+        None
     }
 }
 
 // Any other byte of a form.
-fn literal(file: &[u8], line: Line, b: u8) -> Line
-    requires { (b ≡ 35 → ⊥) × (b ≡ 64 → ⊥) }
-    ensures { seen file.now result ≡ advance (b ∷ []) (seen file.now line) }
+fn literal(line: Line, b: u8) -> Option<Line>
+    requires { (b ≢ 35) × (b ≢ 64) }
+    ensures { Gives result (advance (b ∷ []) (said line.entry)) }
 {
-    let at = line.next;
-    if at < file.len() {
-        if file[at] == b {
-            return Line {
-                next: at + 1,
-                first: line.first,
-                second: line.second,
-            };
-        }
+    let (first, rest) = line.rest.split_first()?;
+    if *first == b {
+        Some(Line { rest, ..line })
+    } else {
+        None
     }
-    lost(file)
 }
 
 // One byte of a form.
-fn piece(file: &[u8], line: Line, b: u8) -> Line
-    ensures { seen file.now result ≡ advance (b ∷ []) (seen file.now line) }
+fn piece(line: Line, b: u8) -> Option<Line>
+    ensures { Gives result (advance (b ∷ []) (said line.entry)) }
 {
-    if b == b'#' {
-        return value(file, line);
+    match b {
+        b'#' => value(line),
+        b'@' => letter(line),
+        _ => literal(line, b),
     }
-    if b == b'@' {
-        return letter(file, line);
-    }
-    literal(file, line, b)
 }
 
-// The line of a form at a position.
-pub fn read_line(file: &[u8], at: usize, form: &[u8]) -> Line
-    ensures { seen file.now result ≡ advance form.now (seen file.now (started at)) }
+// The line of a form at the front of a text.
+pub fn read_line<'a>(text: &'a [u8], form: &[u8]) -> Option<Line<'a>>
+    ensures { Gives result (advance form.now (started text.now)) }
 {
     let mut line = Line {
-        next: at,
         first: 0,
         second: 0,
+        rest: text,
     };
-    let mut i = 0;
-    while i < form.len() {
-        line = piece(file, line, form[i]);
-        i += 1;
+    for b in form {
+        line = piece(line, *b)?;
     }
-    line
+    Some(line)
 }

@@ -4,8 +4,8 @@ use native.Mathlib.Omega.{arith}
 use mathlib.Core.Bool.{Bool, true}
 use mathlib.Core.List.{List, [], ◌∷◌}
 use mathlib.Core.Logic.{◌≢◌}
-use mathlib.Core.Path.{◌≡◌, refl, sym, ◌∙◌, subst}
-use lib.ListN.{length, set}
+use mathlib.Core.Path.{◌≡◌, refl, sym, subst}
+use lib.ListN.{set}
 use Rattle.base.specs.Lists.{gather}
 use Rattle.sets.specs.Sets.{most, has}
 use Rattle.sets.specs.Lowest.{lowest_of, after_lowest}
@@ -32,7 +32,6 @@ use Rattle.ordering.proofs.Rows.{lone_rows, last_rows, whole_rows}
 pub record Going (t b : List ℕ) (left free latest : ℕ) (k : Kept) (w₀ w cells area : List ℕ) (rest : ℕ) : Type 0 where
   pub tally : IsTally cells
   pub beside : EndsAlone left w₀ w
-  pub area_kept : length area ≡ length k.area
   pub inside : rest < 2 ^ most
   pub within : (j : ℕ) → has rest j ≡ true → has left j ≡ true
   pub seen : (F : ℕ → Bool) (S : Starts) → Lone t left free latest w₀ F S
@@ -47,7 +46,6 @@ module _ (t b : List ℕ) (given : Instance t) (left free latest : ℕ) where
       record {
         tally = tally;
         beside = alone_refl left w timed;
-        area_kept = refl;
         inside = low;
         within = λ j y. y;
         seen =
@@ -60,20 +58,18 @@ module _ (t b : List ℕ) (given : Instance t) (left free latest : ℕ) where
   module _ {k : Kept} {w₀ w cells area : List ℕ} {rest : ℕ}
       (so_far : Going t b left free latest k w₀ w cells area rest) where
     -- One has been frozen, and all orders of the others seen.
-    pub going_on : {rest' j fewer stop last : ℕ} {w' cells' area' : List ℕ} → rest ≢ 0 → j ≡ lowest_of rest
-        → rest' ≡ after_lowest rest
+    pub going_on : {rest' j fewer stop last : ℕ} {w' cells' area' : List ℕ}
+        → (0 < rest) × (j ≡ lowest_of rest) × (rest' ≡ after_lowest rest)
         → Turn left fewer j
         → stop ≡ from_at w free j + duration_at t j
         → last ≡ max latest stop
         → Ordered t b fewer stop last (kept_of cells area) (set w j stop) w' cells' area'
-        → length area' ≡ length area
         → Going t b left free latest k w₀ w' cells' area' rest'
-    going_on {rest'} {j} {fewer} {stop} more at next one ends two done same =
-        let turn : Turn rest rest' j = turned rest rest' j so_far.inside more at next in
+    going_on {rest'} {j} {fewer} {stop} (more, at, next) one ends two done =
+        let turn : Turn rest rest' j = turned rest rest' j so_far.inside (omega (arith, more)) at next in
         record {
           tally = done.tally;
           beside = alone_trans so_far.beside (stored_alone w j stop one done.beside);
-          area_kept = same ∙ so_far.area_kept;
           inside = turn.low;
           within = λ i y. so_far.within i (turn_has turn i y);
           seen =
@@ -83,7 +79,7 @@ module _ (t b : List ℕ) (given : Instance t) (left free latest : ℕ) where
               (stored_lone t given (lone_alone so_far.beside lone) j one.there ends one two) in
               seen_more (project_in t) mark
               (λ i. Under (project_in t) (own_of t) (adding F i) (moved S i (from_at w₀ free i))) left (seen_in t b) k turn
-              (lowest_least rest j so_far.inside more at) one.there found.rows
+              (lowest_least rest j so_far.inside (omega (arith, more)) at) one.there found.rows
               (subst
               (λ (x : ℕ). RowsUnder t (adding F j) (moved S j x) found.rows)
               (from_same so_far.beside free j) found.all)

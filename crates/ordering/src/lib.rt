@@ -11,8 +11,8 @@ ghost use Rattle.unbranched.specs.Position.{Given};
 ghost use Rattle.ordering.specs.Lone.{Lone, Ordered};
 
 use instance::{CAP, LINK, Table};
-use profile::{Work, later, ready_of, store_end};
-use sets::{after_lowest, lowest};
+use profile::{Work, ready_of, store_end};
+use sets::{activities, after_lowest, lowest};
 use tally::{COUNT, Cells, leave, leave_new};
 
 // More schedules than the cap have been seen.
@@ -41,9 +41,9 @@ fn finish(
         area.new }
 {
     let i = lowest(left);
-    let end = later(ready_of(work, i), free) + table[i];
+    let end = ready_of(work, i).max(free) + table[i];
     store_end(work, i, end);
-    let last = later(latest, end);
+    let last = latest.max(end);
     if table[LINK] == 0 {
         leave(table, work, last, cells, area);
     } else {
@@ -72,13 +72,10 @@ pub fn order(
     if is_over(table, cells) {
         return;
     }
-    let mut rest = left;
-    while rest != 0 {
-        let j = lowest(rest);
-        rest = after_lowest(rest);
-        let end = later(ready_of(work, j), free) + table[j];
+    for j in activities(left) {
+        let end = ready_of(work, j).max(free) + table[j];
         store_end(work, j, end);
-        let last = later(latest, end);
+        let last = latest.max(end);
         let fewer = sets::without(left, j);
         if after_lowest(fewer) == 0 {
             finish(table, fewer, end, last, work, cells, book, area);

@@ -11,12 +11,9 @@ use Rattle.base.proofs.Bools.{true_not_false}
 use Rattle.sets.specs.Sets.{most}
 use Rattle.orders.specs.Book.{Chain, Differ, Beside, Compared, entry_cells, order_from, cell_at}
 use Rattle.orders.specs.Book.{present_cell, same_cell, differs_cell, present_at, same_at, differs_at, order_at, itself}
-use Rattle.orders.proofs.Links.{Passed, passed_none, passed_map, passed_link, passed_more, cell, part_from}
+use Rattle.orders.proofs.Links.{Passed, passed_map, passed_more, cell, part_from}
 use Rattle.orders.proofs.Links.{rest_cell, nearest_same}
 use Rattle.orders.proofs.Differing.{differ_same, differ_none, differ_same_none}
-
-beside_self : (b : List ℕ) → Beside b b
-beside_self b = record { size = refl; cells = λ e c l ne. refl }
 
 -- The chain is not touched.
 beside_chain : (k : ℕ) (b b' : List ℕ) → Beside b b' → Chain k b → Chain k b'
@@ -48,9 +45,6 @@ module _ (preds : List ℕ) (k : ℕ) (b : List ℕ) where
   pub record Comparing (to : ℕ) (b' : List ℕ) : Type 0 where
     pub beside : Beside b b'
     pub passed : Passed k b (Differs b') to
-
-  pub comparing_none : Comparing k b
-  comparing_none = record { beside = beside_self b; passed = passed_none k b (Differs b) }
 
   module _ (chain : Chain k b) (to : ℕ) (b' : List ℕ) (h : Comparing to b') where
     -- The set x that the comparison with the entry before the link finds.
@@ -89,9 +83,6 @@ module _ (preds : List ℕ) (k : ℕ) (b : List ℕ) where
     next_link : (x : ℕ) → next x ≡ same_at b (to - 1)
     next_link x =
         cell (after x) (to - 1) same_cell ∙ (after_beside x).cells (to - 1) same_cell (omega arith) (λ r. omega arith)
-
-    pub next_less : (x : ℕ) → 0 < to → next x < to
-    next_less x some = omega (arith, next_link x, (passed_link k b (Differs b') to h.passed chain some).upto)
 
     pub comparing_more : (x : ℕ) → 0 < to → DifferIn (to - 1) x → Comparing (next x) (after x)
     comparing_more x some new =

@@ -15,58 +15,49 @@ use Rattle.orders.specs.Book.{Differ}
 
 -- The activities below n have been compared.
 pub record Differing (order preds : ℕ → ℕ) (n set : ℕ) : Type 0 where
-  pub upto : n ≤ most
   pub low : set < 2 ^ most
   pub passed : (j : ℕ) → j < n → has set j ≡ not (eqb (order j) (preds j))
   pub ahead : (j : ℕ) → n ≤ j → has set j ≡ false
 
+module _ {order preds : ℕ → ℕ} {n set : ℕ} (h : Differing order preds n set) where
+  pub differing_same : {set' : ℕ} → set' ≡ set → order n ≡ preds n → Differing order preds (n + 1) set'
+  differing_same kept e =
+      rw kept
+      (record {
+        low = h.low;
+        passed = λ j l.
+            by_cases
+            (ℕ_discrete j n)
+            (λ q.
+            ap (has set) q ∙ h.ahead n (omega arith) ∙ sym (ap not (eq-eqb (order n) (preds n) e))
+            ∙ ap (λ (i : ℕ). not (eqb (order i) (preds i))) (sym q))
+            (λ ne. h.passed j (omega arith));
+        ahead = λ j l. h.ahead j (omega arith);
+      })
+
+  pub differing_more : {set' : ℕ} → set' ≡ bit_or set (2 ^ n) → n < most → order n ≢ preds n
+      → Differing order preds (n + 1) set'
+  differing_more {set'} new below ne =
+      record {
+        low = omega (arith, or_lt most set (2 ^ n) h.low (pow-lt below));
+        passed = λ j l.
+            by_cases
+            (ℕ_discrete j n)
+            (λ q.
+            with_n j ∙ ap (λ (x : Bool). has set j || x) (eq-eqb j n q) ∙ or-true (has set j)
+            ∙ sym (ap not (ne_eqb (order n) (preds n) ne))
+            ∙ ap (λ (i : ℕ). not (eqb (order i) (preds i))) (sym q))
+            (λ other. others j other ∙ h.passed j (omega arith));
+        ahead = λ j l. others j (λ q. omega arith) ∙ h.ahead j (omega arith);
+      }
+    where
+      with_n : (j : ℕ) → has set' j ≡ (has set j || eqb j n)
+      with_n j = ap (λ (x : ℕ). has x j) new ∙ has_with set n j
+
+      others : (j : ℕ) → j ≢ n → has set' j ≡ has set j
+      others j other = with_n j ∙ ap (λ (x : Bool). has set j || x) (ne_eqb j n other) ∙ or-false (has set j)
+
 module _ (order preds : ℕ → ℕ) where
-  pub differing_none : Differing order preds 0 0
-  differing_none =
-      record { upto = omega arith; low = omega arith; passed = λ j l. absurd (omega arith); ahead = λ j l. has_none j }
-
-  module _ (n set : ℕ) (h : Differing order preds n set) where
-    pub differing_same : n < most → order n ≡ preds n → Differing order preds (n + 1) set
-    differing_same below e =
-        record {
-          upto = omega arith;
-          low = h.low;
-          passed = λ j l.
-              by_cases
-              (ℕ_discrete j n)
-              (λ q.
-              ap (has set) q ∙ h.ahead n (omega arith) ∙ sym (ap not (eq-eqb (order n) (preds n) e))
-              ∙ ap (λ (i : ℕ). not (eqb (order i) (preds i))) (sym q))
-              (λ ne. h.passed j (omega arith));
-          ahead = λ j l. h.ahead j (omega arith);
-        }
-
-    pub differing_more : (set' : ℕ) → n < most → order n ≢ preds n → set' ≡ bit_or set (2 ^ n)
-        → Differing order preds (n + 1) set'
-    differing_more set' below ne new =
-        record {
-          upto = omega arith;
-          low = omega (arith, or_lt most set (2 ^ n) h.low (pow-lt below));
-          passed = λ j l.
-              by_cases
-              (ℕ_discrete j n)
-              (λ q.
-              with_n j ∙ ap (λ (x : Bool). has set j || x) (eq-eqb j n q) ∙ or-true (has set j)
-              ∙ sym (ap not (ne_eqb (order n) (preds n) ne))
-              ∙ ap (λ (i : ℕ). not (eqb (order i) (preds i))) (sym q))
-              (λ other. others j other ∙ h.passed j (omega arith));
-          ahead = λ j l. others j (λ q. omega arith) ∙ h.ahead j (omega arith);
-        }
-      where
-        with_n : (j : ℕ) → has set' j ≡ (has set j || eqb j n)
-        with_n j = ap (λ (x : ℕ). has x j) new ∙ has_with set n j
-
-        others : (j : ℕ) → j ≢ n → has set' j ≡ has set j
-        others j other = with_n j ∙ ap (λ (x : Bool). has set j || x) (ne_eqb j n other) ∙ or-false (has set j)
-
-    pub differing_all : most ≤ n → Differ order preds set
-    differing_all all = record { low = h.low; where_not = λ j l. h.passed j (omega arith) }
-
   -- Where the set is empty, the orders are the same,
   pub differ_none : (set : ℕ) → set ≡ 0 → Differ order preds set → (j : ℕ) → j < most → order j ≡ preds j
   differ_none set e h j l =

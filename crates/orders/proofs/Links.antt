@@ -5,7 +5,7 @@ use native.Mathlib.Omega.{arith}
 use mathlib.Core.List.{List}
 use mathlib.Core.Logic.{◌≢◌, by_cases}
 use mathlib.Core.Path.{◌≡◌, refl, sym, ap, subst, ◌∙◌}
-use Rattle.orders.specs.Book.{Nearest, Chain, entry_cells, cell_at, present_at, same_at, bucket_of, itself}
+use Rattle.orders.specs.Book.{Nearest, Chain, entry_cells, cell_at, present_at, same_at, itself}
 use lib.ListN.{length, get_or, take, drop, length-drop}
 use lib.Seq.{take_all, get_or-drop}
 
@@ -42,15 +42,6 @@ further like b n s k k' some h other rest =
           (λ q r. other (ap (present_at b) (sym q) ∙ r))
           (λ ne. h.none e (omega arith) below));
     }
-
--- The entry that a link leads to has the activities.
-pub found : (b : List ℕ) (n s k : ℕ) → Nearest bucket_of b n s k → present_at b (k - 1) ≡ s → Nearest itself b n s k
-found b n s k h e = record { upto = h.upto; alike = λ some. e; none = h.none }
-
--- No entry is left.
-pub none_left : (b : List ℕ) (n s k : ℕ) → Nearest bucket_of b n s k → k ≡ 0 → Nearest itself b n s 0
-none_left b n s k h e =
-    record { upto = omega arith; alike = λ some. absurd (omega arith); none = λ i l. h.none i (omega arith) }
 
 -- The same of a book whose first n entries have the same activities.
 pub nearest_same : (like : ℕ → ℕ) (b b' : List ℕ) (n s s' k k' : ℕ)

@@ -86,12 +86,10 @@ fn differences(entry: &[u32], preds: &[u32; MOST_ACTS]) -> u32
     ensures { Differ (λ j. get_or entry.now (order_from + j) 0) (λ j. get_or preds.now j 0) result }
 {
     let mut set = 0;
-    let mut j = 0;
-    while j < MOST_ACTS {
+    for j in 0..MOST_ACTS {
         if entry[ORDER + j] != preds[j] {
             set = sets::union(set, sets::single(j));
         }
-        j += 1;
     }
     set
 }
@@ -122,11 +120,7 @@ fn write_entry(entry: &mut [u32], present: u32, bucket: u32, same: u32, preds: &
     entry[PRESENT] = present;
     entry[BUCKET] = bucket;
     entry[SAME] = same;
-    let mut j = 0;
-    while j < MOST_ACTS {
-        entry[ORDER + j] = preds[j];
-        j += 1;
-    }
+    entry[ORDER..ENTRY].copy_from_slice(preds);
 }
 
 // An order becomes an entry; the link leads to the last one with the same activities.

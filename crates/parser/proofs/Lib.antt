@@ -1,9 +1,7 @@
--- The laws that the reader's proofs rest on.
+-- What lines and readers say, and the lines of a plan in their order.
 pub mod Matching
-pub mod Cursors
 pub mod Readers
-pub mod Capacities
-pub mod Units
-pub mod Loops
-pub mod Filling
+pub mod Editions
+pub mod Counted
+pub mod Kept
 pub mod Whole

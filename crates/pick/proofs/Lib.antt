@@ -1,7 +1,7 @@
 -- The nodes of one variant: what the code's proofs go by.
-pub mod Terms
+pub mod Places
 pub mod Walking
-pub mod Letters
 pub mod Spanning
 pub mod Writing
+pub mod Groups
 pub mod Picking

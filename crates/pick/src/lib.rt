@@ -1,38 +1,36 @@
 // Where the terms of a plan end, how many variants each has, and the nodes of one variant, as they are written out.
 #![tactic(auto)]
 
-ghost use Rattle.std.specs.Prelude.{◌+◌, ◌/◌, ◌%◌, ◌≤◌, ◌<◌, min, List, ◌≡◌, set};
+ghost use Rattle.std.specs.Prelude.{◌+◌, ◌/◌, ◌%◌, ◌≤◌, ◌<◌, min, length, ◌≡◌};
 ghost use Rattle.std.proofs.Math.Option.{some};
 ghost use Rattle.plan.specs.Limits.{most_nodes};
-ghost use Rattle.plan.specs.Plan.{Node, nodes_of, nodes_in};
 ghost use Rattle.term.specs.Term.{Term, firsts, term_of};
 ghost use Rattle.term.specs.Variants.{variant_count};
 ghost use Rattle.pick.specs.Picked.{Picks};
 ghost use Rattle.pick.specs.Model.{stop, Spanned, Stopped, combine, ChildrenFrom, AlongChildren, Begun, Ended};
 ghost use Rattle.pick.specs.Model.{AmongAlternatives, AlternativeFound, parts_of, parts_of_each, term_at, terms_at};
-ghost use Rattle.pick.specs.Model.{drafted, Grown, OfTerm, OfEach};
+ghost use Rattle.pick.specs.Model.{node_at, node_by, joins, Grown, OfTerm, OfGroup, OfEach};
 
-use plan::MOST_NODES;
+mod output;
 
-// For each node, where the term that it begins ends, and how many variants that term has.
+pub use output::Picked;
+use plan::{MOST_NODES, Node};
+
+// Where a term ends, and how many variants it has.
 #[derive(Clone, Copy)]
-pub struct Spans {
-    pub next: [usize; MOST_NODES],
-    pub count: [u32; MOST_NODES],
+pub struct Span {
+    pub next: usize,
+    pub count: u32,
 }
 
-// The nodes of one variant. What stands past their count means nothing.
-#[derive(Clone, Copy)]
-pub struct Picked {
-    pub nodes: usize,
-    pub letter: [u8; MOST_NODES],
-    pub number: [u8; MOST_NODES],
-}
+// For each node, the span of the term that it begins.
+pub type Spans = [Span; MOST_NODES];
 
+// The nodes of a plan, and their spans.
 #[derive(Clone, Copy)]
-struct Span {
-    next: usize,
-    count: u32,
+struct Terms<'a> {
+    nodes: &'a [Node],
+    spans: &'a Spans,
 }
 
 // A place among the nodes, and a variant of the term there.
@@ -50,79 +48,48 @@ struct Digits {
     others: u32,
 }
 
-// How many nodes are written so far, and how many children the group that is being written has.
-#[derive(Clone, Copy)]
-struct Draft {
-    at: usize,
-    children: u8,
+// A group of which all children are done.
+#[derive(Clone, Copy, PartialEq, Eq)]
+enum Group {
+    Sequence,
+    Parallel,
+}
+
+impl Group {
+    fn node(self, children: u8) -> Node
+        ensures { result ≡ node_by self children }
+    {
+        match self {
+            Group::Sequence => Node::Seq(children),
+            Group::Parallel => Node::Pll(children),
+        }
+    }
+
+    // Whether a group gives its children to the one around it, which is then of its own kind.
+    fn joins(self, outer: Option<Group>) -> bool
+        ensures { result ≡ joins self outer }
+    {
+        outer == Some(self)
+    }
 }
 
 // The counts of variants stop one above the most that a plan may have, so that none overflows.
 const STOP: u32 = plan::MOST_VARIANTS + 1;
 
 // The spans of the nodes of a term, from the last node to the first: a node's children stand behind it.
-pub fn spans_of(letter: [u8; MOST_NODES], number: [u8; MOST_NODES], nodes: usize) -> Spans
-    requires { (nodes ≤ most_nodes) × ((t : Term) × (term_of (nodes_in nodes letter number) ≡ some t)) }
-    ensures { Stopped (nodes_in nodes letter number) result.next result.count 0 }
+pub fn spans_of(nodes: &[Node]) -> Spans
+    requires { (length nodes.now ≤ most_nodes) × ((t : Term) × (term_of nodes.now ≡ some t)) }
+    ensures { Stopped nodes.now result 0 }
 {
-    let mut next = [0usize; MOST_NODES];
-    let mut count = [0u32; MOST_NODES];
-    let mut i = nodes;
-    while 0 < i {
-        i -= 1;
-        let s = span_of(letter[i], number[i], i + 1, &next, &count);
-        next[i] = s.next;
-        count[i] = s.count;
+    let mut spans = [Span { next: 0, count: 0 }; MOST_NODES];
+    for i in (0..nodes.len()).rev() {
+        let terms = Terms {
+            nodes,
+            spans: &spans,
+        };
+        spans[i] = terms.span_of(i);
     }
-    Spans { next, count }
-}
-
-// The span of the node of this letter and number, whose children begin at `from`.
-fn span_of(
-    letter: u8,
-    number: u8,
-    from: usize,
-    next: &[usize; MOST_NODES],
-    count: &[u32; MOST_NODES],
-) -> Span
-    requires { (ns : List Node) × Begun ns next.now count.now letter number from }
-    ensures { (ns : List Node) → Begun ns next.now count.now letter number from
-        → Ended ns letter number from result }
-{
-    match letter {
-        b'a' => Span {
-            next: from,
-            count: 1,
-        },
-        b's' | b'p' => walk(false, number, from, next, count),
-        _ => walk(true, number, from, next, count),
-    }
-}
-
-// Along k children: the place behind them, and how many variants they have, one of them chosen or all together.
-fn walk(
-    apart: bool,
-    k: u8,
-    from: usize,
-    next: &[usize; MOST_NODES],
-    count: &[u32; MOST_NODES],
-) -> Span
-    requires { (ns : List Node) × ChildrenFrom ns next.now count.now k from }
-    ensures { (ns : List Node) → ChildrenFrom ns next.now count.now k from
-        → AlongChildren ns apart k from result }
-{
-    let mut at = from;
-    let mut left = k;
-    let mut ways = if apart { 0 } else { 1 };
-    while 0 < left {
-        ways = combined(apart, ways, count[at]);
-        at = next[at];
-        left -= 1;
-    }
-    Span {
-        next: at,
-        count: ways,
-    }
+    spans
 }
 
 // The variants of some children and of one more.
@@ -132,56 +99,6 @@ fn combined(apart: bool, a: u32, b: u32) -> u32
 {
     let n = if apart { a + b } else { a * b };
     if n < STOP { n } else { STOP }
-}
-
-// The child, of those from a place on, that v falls into.
-fn alternative(next: &[usize; MOST_NODES], count: &[u32; MOST_NODES], from: usize, v: u32) -> Place
-    requires { (ns : List Node) × AmongAlternatives ns next.now count.now from v }
-    ensures { (ns : List Node) → AmongAlternatives ns next.now count.now from v
-        → AlternativeFound ns from v result }
-{
-    let mut at = from;
-    let mut left = v;
-    while count[at] <= left {
-        left -= count[at];
-        at = next[at];
-    }
-    Place { at, v: left }
-}
-
-// Room for one node, whose children follow.
-fn opened(d: Draft) -> Draft
-    requires { d.at < most_nodes }
-    ensures { result ≡ record { at = d.at + 1; children = 0 } }
-{
-    Draft {
-        at: d.at + 1,
-        children: 0,
-    }
-}
-
-// Puts a node into the room that was left for it behind `outer`, where it is one more child of the group being
-// written.
-fn closed(
-    d: Draft,
-    outer: Draft,
-    letter: u8,
-    number: u8,
-    letters: &mut [u8; MOST_NODES],
-    numbers: &mut [u8; MOST_NODES],
-) -> Draft
-    requires { (outer.at < most_nodes) × (outer.children < most_nodes) }
-    ensures value { result ≡ record { at = d.at; children = outer.children + 1 } }
-    ensures letters_after { letters.new ≡ set letters.old outer.at letter }
-    ensures numbers_after { numbers.new ≡ set numbers.old outer.at number }
-{
-    let at = outer.at;
-    letters[at] = letter;
-    numbers[at] = number;
-    Draft {
-        at: d.at,
-        children: outer.children + 1,
-    }
 }
 
 // Of the `all` variants of several terms, number v, where the first term has `here`: the first one varies slowest.
@@ -197,163 +114,146 @@ fn split(v: u32, all: u32, here: u32) -> Digits
     }
 }
 
-// Writes variant v of the term at a place, as a child of a group of the letter `kind` (0: of none). A group in one of
-// its own letter gives its children to it.
-#[cycle(each_term)]
-fn term(
-    letter: &[u8],
-    number: &[u8],
-    next: &[usize; MOST_NODES],
-    count: &[u32; MOST_NODES],
-    kind: u8,
-    at: usize,
-    v: u32,
-    d: Draft,
-    letters: &mut [u8; MOST_NODES],
-    numbers: &mut [u8; MOST_NODES],
-) -> Draft
-    requires { OfTerm letter.now number.now next.now count.now at v
-        (drafted d letters.old numbers.old) }
-    ensures { Grown (drafted d letters.old numbers.old)
-        (drafted result letters.new numbers.new)
-        (parts_of kind (term_at (nodes_of letter.now number.now) at) v) }
-{
-    let l = letter[at];
-    let k = number[at];
-    match l {
-        b'a' => closed(opened(d), d, l, k, letters, numbers),
-        b's' | b'p' => {
-            if l == kind {
-                each(
-                    letter,
-                    number,
-                    next,
-                    count,
-                    l,
-                    k,
-                    at + 1,
-                    v,
-                    count[at],
-                    d,
-                    letters,
-                    numbers,
-                )
-            } else {
-                let inner = each(
-                    letter,
-                    number,
-                    next,
-                    count,
-                    l,
-                    k,
-                    at + 1,
-                    v,
-                    count[at],
-                    opened(d),
-                    letters,
-                    numbers,
-                );
-                closed(inner, d, l, inner.children, letters, numbers)
+impl Terms<'_> {
+    // The span of a node, whose children begin behind it.
+    fn span_of(&self, i: usize) -> Span
+        requires { (i < length self.now.nodes.now)
+            × Begun self.now.nodes.now self.now.spans.now (node_at self.now.nodes.now i) (i + 1) }
+        ensures { Ended self.now.nodes.now (node_at self.now.nodes.now i) (i + 1) result }
+    {
+        let from = i + 1;
+        match self.nodes[i] {
+            Node::Act(_) => Span {
+                next: from,
+                count: 1,
+            },
+            Node::Seq(k) | Node::Pll(k) => self.walk(false, k, from),
+            Node::Xor(k) => self.walk(true, k, from),
+        }
+    }
+
+    // Along k children: the place behind them, and how many variants they have, one of them chosen or all together.
+    fn walk(&self, apart: bool, k: u8, from: usize) -> Span
+        requires { ChildrenFrom self.now.nodes.now self.now.spans.now k from }
+        ensures { AlongChildren self.now.nodes.now apart k from result }
+    {
+        let mut at = from;
+        let mut ways = if apart { 0 } else { 1 };
+        for _ in 0..k {
+            let span = self.spans[at];
+            ways = combined(apart, ways, span.count);
+            at = span.next;
+        }
+        Span {
+            next: at,
+            count: ways,
+        }
+    }
+
+    // The child, of those from a place on, that v falls into.
+    fn alternative(&self, from: usize, v: u32) -> Place
+        requires { AmongAlternatives self.now.nodes.now self.now.spans.now from v }
+        ensures { AlternativeFound self.now.nodes.now from v result }
+    {
+        let mut at = from;
+        let mut left = v;
+        // A while: the step depends on what is read.
+        while self.spans[at].count <= left {
+            left -= self.spans[at].count;
+            at = self.spans[at].next;
+        }
+        Place { at, v: left }
+    }
+
+    // Writes a variant of the term at a place, as a child of a group or of none: how many children that adds.
+    #[cycle(each_term)]
+    fn term(&self, outer: Option<Group>, place: Place, picked: &mut Picked) -> u8
+        requires { OfTerm self.now.nodes.now self.now.spans.now place picked.old }
+        ensures { Grown picked.old picked.new
+            (parts_of outer (term_at self.now.nodes.now place.at) place.v) result }
+    {
+        let node = self.nodes[place.at];
+        match node {
+            Node::Act(_) => {
+                let room = picked.leave_room();
+                picked.node[room] = node;
+                1
+            }
+            Node::Seq(k) => self.group(Group::Sequence, k, outer, place, picked),
+            Node::Pll(k) => self.group(Group::Parallel, k, outer, place, picked),
+            Node::Xor(_) => {
+                let one = self.alternative(place.at + 1, place.v);
+                self.term(outer, one, picked)
             }
         }
-        _ => {
-            let one = alternative(next, count, at + 1, v);
-            term(
-                letter, number, next, count, kind, one.at, one.v, d, letters, numbers,
-            )
+    }
+
+    // The same, where the term is a group of k children. A group in one of its own kind gives its children to it.
+    #[cycle(each_term)]
+    fn group(
+        &self,
+        kind: Group,
+        k: u8,
+        outer: Option<Group>,
+        place: Place,
+        picked: &mut Picked,
+    ) -> u8
+        requires { OfGroup self.now.nodes.now self.now.spans.now kind k place picked.old }
+        ensures { Grown picked.old picked.new
+            (parts_of outer (term_at self.now.nodes.now place.at) place.v) result }
+    {
+        let all = self.spans[place.at].count;
+        let children = Place {
+            at: place.at + 1,
+            v: place.v,
+        };
+        if kind.joins(outer) {
+            self.each(kind, k, children, all, picked)
+        } else {
+            let room = picked.leave_room();
+            let written = self.each(kind, k, children, all, picked);
+            picked.node[room] = kind.node(written);
+            1
         }
     }
-}
 
-// Writes variant v of the `all` that k terms from a place on have together, each as a child of a group of the letter
-// `kind`.
-#[cycle(each_term)]
-fn each(
-    letter: &[u8],
-    number: &[u8],
-    next: &[usize; MOST_NODES],
-    count: &[u32; MOST_NODES],
-    kind: u8,
-    k: u8,
-    at: usize,
-    v: u32,
-    all: u32,
-    d: Draft,
-    letters: &mut [u8; MOST_NODES],
-    numbers: &mut [u8; MOST_NODES],
-) -> Draft
-    requires { OfEach letter.now number.now next.now count.now k at v all
-        (drafted d letters.old numbers.old) }
-    ensures { Grown (drafted d letters.old numbers.old)
-        (drafted result letters.new numbers.new)
-        (parts_of_each kind (firsts k (terms_at (nodes_of letter.now number.now) at)) v) }
-{
-    if k == 0 {
-        return d;
+    // Writes one of the `all` variants that k terms from a place on have together, each as a child of a group.
+    #[cycle(each_term)]
+    fn each(&self, kind: Group, k: u8, place: Place, all: u32, picked: &mut Picked) -> u8
+        requires { OfEach self.now.nodes.now self.now.spans.now k place all picked.old }
+        ensures { Grown picked.old picked.new
+            (parts_of_each kind (firsts k (terms_at self.now.nodes.now place.at)) place.v) result }
+    {
+        let mut children = 0;
+        let mut at = place.at;
+        let mut left = place.v;
+        let mut ways = all;
+        for _ in 0..k {
+            let here = self.spans[at];
+            let digits = split(left, ways, here.count);
+            let first = Place {
+                at,
+                v: digits.first,
+            };
+            children += self.term(Some(kind), first, picked);
+            at = here.next;
+            left = digits.rest;
+            ways = digits.others;
+        }
+        children
     }
-    let digits = split(v, all, count[at]);
-    let first = term(
-        letter,
-        number,
-        next,
-        count,
-        kind,
-        at,
-        digits.first,
-        d,
-        letters,
-        numbers,
-    );
-    each(
-        letter,
-        number,
-        next,
-        count,
-        kind,
-        k - 1,
-        next[at],
-        digits.rest,
-        digits.others,
-        first,
-        letters,
-        numbers,
-    )
 }
 
 // The nodes of variant v of an accepted plan.
-pub fn pick(
-    letter: [u8; MOST_NODES],
-    number: [u8; MOST_NODES],
-    nodes: usize,
-    spans: Spans,
-    v: u32,
-) -> Picked
-    requires { (nodes ≤ most_nodes)
-        × Spanned (nodes_in nodes letter number) spans.next spans.count 0
-        × ((t : Term) × (term_of (nodes_in nodes letter number) ≡ some t) × (v < variant_count t)) }
-    ensures { (t : Term) → term_of (nodes_in nodes letter number) ≡ some t → Picks t v result }
+pub fn pick(nodes: &[Node], spans: &Spans, v: u32) -> Picked
+    requires { (length nodes.now ≤ most_nodes) × Spanned nodes.now spans.now 0
+        × ((t : Term) × (term_of nodes.now ≡ some t) × (v < variant_count t)) }
+    ensures { (t : Term) → term_of nodes.now ≡ some t → Picks t v result }
 {
-    let next = spans.next;
-    let count = spans.count;
-    let start = Place { at: 0, v };
-    let blank = Draft { at: 0, children: 0 };
-    let mut letters = [0; MOST_NODES];
-    let mut numbers = [0; MOST_NODES];
-    let d = term(
-        &letter[..nodes],
-        &number[..nodes],
-        &next,
-        &count,
-        0,
-        start.at,
-        start.v,
-        blank,
-        &mut letters,
-        &mut numbers,
-    );
-    Picked {
-        nodes: d.at,
-        letter: letters,
-        number: numbers,
-    }
+    let mut picked = Picked {
+        nodes: 0,
+        node: [Node::Act(0); MOST_NODES],
+    };
+    Terms { nodes, spans }.term(None, Place { at: 0, v }, &mut picked);
+    picked
 }

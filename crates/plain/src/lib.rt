@@ -4,12 +4,14 @@
 
 mod line;
 mod picks;
+mod refusal;
 mod tables;
 mod text;
 mod verdict;
 
-pub use picks::{Picks, Variant, first, next, picked};
-pub use tables::{NONE, Plan};
+pub use picks::{Variant, Variants};
+pub use refusal::Refusal;
+pub use tables::{Activity, Kind, Node, Plan};
 pub use verdict::{Judged, judge};
 
 // The most resources, activities, nodes and variants of a plan, and the longest duration.
@@ -19,14 +21,6 @@ pub const ACTS: usize = 24;
 
 pub const NODES: usize = 64;
 
-const VARIANTS: u32 = 4096;
+const VARIANTS: usize = 4096;
 
 const LONGEST: u32 = 20000;
-
-// A unit count for each activity and resource.
-pub const COUNTS: usize = ACTS * RESOURCES;
-
-// The plan of a file that is not refused.
-pub fn read(file: &[u8]) -> Plan {
-    tables::read(file, text::read(file))
-}

@@ -1,161 +1,112 @@
-// A line of a plan file, read from a place on.
+// The lines of a plan file, read from the front, with the refusal of a line that is not of its form.
 use crate::RESOURCES;
+use crate::refusal::Refusal;
+use crate::tables::Kind;
 
 // The most values of a line: a duration, and a count for each resource.
-const VALUES: usize = 1 + RESOURCES;
+pub const VALUES: usize = 1 + RESOURCES;
 
-// A line as far as it is read: whether it is well formed, where it goes on, its letter, and its values, with 0 behind
-// them.
-#[derive(Clone, Copy)]
-pub struct Line {
-    pub ok: bool,
-    pub at: usize,
-    pub letter: u8,
-    pub value: [u32; VALUES],
-    values: usize,
+// What is left of a file, and the number of the line that was read last.
+#[derive(Drop)]
+pub struct Lines<'a> {
+    rest: &'a [u8],
+    line: u64,
 }
 
-// The digits at a place, up to the first byte that is none, six at most.
-#[derive(Clone, Copy)]
-struct Digits {
-    ended: bool,
-    count: usize,
-    value: u32,
-}
-
-// No line has byte 0.
-fn byte(file: &[u8], at: usize) -> u8 {
-    if at < file.len() { file[at] } else { 0 }
-}
-
-fn with_byte(file: &[u8], l: Line, b: u8) -> Line {
-    let mut m = l;
-    m.ok = l.ok & (byte(file, l.at) == b);
-    m.at = std::num::wrapping_add_usize(l.at, 1);
-    m
-}
-
-// A line starts with its key.
-fn start(file: &[u8], at: usize, key: &[u8]) -> Line {
-    let mut l = Line {
-        ok: true,
-        at,
-        letter: 0,
-        value: [0; VALUES],
-        values: 0,
-    };
-    for i in 0..key.len() {
-        l = with_byte(file, l, key[i]);
+impl<'a> Lines<'a> {
+    pub fn new(file: &'a [u8]) -> Lines<'a> {
+        Lines {
+            rest: file,
+            line: 0,
+        }
     }
-    l
-}
 
-// No digit after the sixth is read, and before that one a value is below 100000.
-fn with_digit(d: Digits, b: u8) -> Digits {
-    let mut e = d;
-    if d.ended | (b < b'0') | (b'9' < b) {
-        e.ended = true;
-        return e;
+    pub fn line(&self) -> u64 {
+        self.line
     }
-    e.count = std::num::wrapping_add_usize(d.count, 1);
-    e.value = d.value % 100000 * 10 + (b % 16) as u32;
-    e
-}
 
-fn digits_at(file: &[u8], at: usize) -> Digits {
-    let mut d = Digits {
-        ended: false,
-        count: 0,
-        value: 0,
-    };
-    for i in 0usize..6 {
-        d = with_digit(d, byte(file, std::num::wrapping_add_usize(at, i)));
+    fn skip(&mut self, text: &[u8]) -> Option<()> {
+        self.rest = self.rest.strip_prefix(text)?;
+        Some(())
     }
-    d
-}
 
-// One more value; no line has more than there is room for.
-fn stored(l: Line, n: u32) -> Line {
-    let at = l.values;
-    if VALUES <= at {
-        return l;
+    fn letter(&mut self) -> Option<Kind> {
+        let (letter, rest) = self.rest.split_first()?;
+        self.rest = rest;
+        Kind::of_letter(*letter)
     }
-    let mut m = l;
-    m.value[at] = n;
-    m.values = at + 1;
-    m
-}
 
-// A value is one to five digits with no leading zero.
-fn with_value(file: &[u8], l: Line) -> Line {
-    let d = digits_at(file, l.at);
-    let is_zero = byte(file, l.at) == b'0';
-    let mut m = stored(l, d.value);
-    m.ok = l.ok & (0 < d.count) & (d.count < 6) & ((d.count == 1) | !is_zero);
-    m.at = std::num::wrapping_add_usize(l.at, d.count);
-    m
-}
-
-fn with_letter(l: Line, b: u8) -> Line {
-    let mut m = l;
-    m.ok = l.ok & ((b == b'a') | (b == b's') | (b == b'p') | (b == b'x'));
-    m.at = std::num::wrapping_add_usize(l.at, 1);
-    m.letter = b;
-    m
-}
-
-// The value at a place of the line, behind a comma unless it is the first.
-fn with_value_at(file: &[u8], l: Line, place: usize) -> Line {
-    if place == 0 {
-        return with_value(file, l);
+    fn digit(&mut self) -> Option<u32> {
+        let (digit, rest) = self.rest.split_first()?;
+        if !digit.is_ascii_digit() {
+            return None;
+        }
+        self.rest = rest;
+        Some(u32::from(*digit - b'0'))
     }
-    with_value(file, with_byte(file, l, b','))
-}
 
-// A line of so many values.
-pub fn listed(file: &[u8], at: usize, key: &[u8], values: usize) -> Line {
-    let mut l = start(file, at, key);
-    for place in 0..values {
-        l = with_value_at(file, l, place);
+    // A value is one to five digits with no leading zero.
+    fn value(&mut self) -> Option<u32> {
+        let mut value = self.digit()?;
+        if value == 0 {
+            return Some(0);
+        }
+        for _ in 1..5 {
+            let Some(digit) = self.digit() else {
+                return Some(value);
+            };
+            value = value.checked_mul(10)?.checked_add(digit)?;
+        }
+        Some(value)
     }
-    with_byte(file, l, b'\n')
-}
 
-// An activity's line: its resource and its duration, or from edition 2 on its duration and a count for each resource.
-pub fn activity(file: &[u8], at: usize, edition: u32, resources: usize) -> Line {
-    if edition == 1 {
-        return listed(file, at, b"act=", 2);
+    fn values(&mut self, key: &[u8], count: usize) -> Option<[u32; VALUES]> {
+        self.skip(key)?;
+        let mut values = [0; VALUES];
+        for (i, value) in values.iter_mut().take(count).enumerate() {
+            if i != 0 {
+                self.skip(b",")?;
+            }
+            *value = self.value()?;
+        }
+        self.skip(b"\n")?;
+        Some(values)
     }
-    listed(
-        file,
-        at,
-        b"act=",
-        std::num::wrapping_add_usize(resources, 1),
-    )
-}
 
-// The duration on an activity's line.
-pub fn duration(l: Line, edition: u32) -> u32 {
-    if edition == 1 { l.value[1] } else { l.value[0] }
-}
+    fn kind_and_number(&mut self) -> Option<(Kind, u32)> {
+        self.skip(b"node=")?;
+        let kind = self.letter()?;
+        self.skip(b",")?;
+        let number = self.value()?;
+        self.skip(b"\n")?;
+        Some((kind, number))
+    }
 
-// The units of a resource on an activity's line.
-pub fn units(l: Line, edition: u32, resource: usize) -> u32 {
-    if RESOURCES <= resource {
-        return 0;
+    // On to the next line.
+    fn start(&mut self) -> Refusal {
+        self.line = self.line.saturating_add(1);
+        Refusal::Form { line: self.line }
     }
-    if edition != 1 {
-        return l.value[resource + 1];
-    }
-    if l.value[0] as usize == resource {
-        1
-    } else {
-        0
-    }
-}
 
-pub fn node(file: &[u8], at: usize) -> Line {
-    let l = start(file, at, b"node=");
-    let m = with_byte(file, with_letter(l, byte(file, l.at)), b',');
-    with_byte(file, with_value(file, m), b'\n')
+    // A line of so many values, with 0 behind them.
+    pub fn listed(&mut self, key: &[u8], count: usize) -> Result<[u32; VALUES], Refusal> {
+        let refusal = self.start();
+        self.values(key, count).ok_or(refusal)
+    }
+
+    // A node's line.
+    pub fn node(&mut self) -> Result<(Kind, u32), Refusal> {
+        let refusal = self.start();
+        self.kind_and_number().ok_or(refusal)
+    }
+
+    // The line after the last is no line: the file ends there.
+    pub fn end(&mut self) -> Result<(), Refusal> {
+        let refusal = self.start();
+        if self.rest.is_empty() {
+            Ok(())
+        } else {
+            Err(refusal)
+        }
+    }
 }

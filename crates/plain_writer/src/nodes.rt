@@ -1,105 +1,90 @@
 // The chosen term of a variant: an x is replaced by its pick, and an s in an s or a p in a p is dissolved. What is left
 // stands in the order of the plan's nodes, which is prefix order again.
-use plain::{NODES, NONE, Plan, Variant};
+use crate::text::Writer;
+use plain::{Kind, NODES, Node, Plan, Variant};
 
-// Which nodes are kept and how many there are; the kept node that the children of a node come under, NONE where there
-// is none; and how many kept children a kept node has.
+// Whether a node is kept, the kept node that its children come under, and how many kept children it has.
 #[derive(Clone, Copy)]
-pub struct Term {
-    pub nodes: u32,
-    kept: [bool; NODES],
-    above: [usize; NODES],
-    children: [u32; NODES],
+struct Place {
+    is_kept: bool,
+    above: Option<usize>,
+    children: u32,
 }
 
-// The kept node that a node comes under.
-fn parent(t: Term, p: Plan, node: usize) -> usize {
-    if NODES <= node {
-        return NONE;
-    }
-    let parent = p.parent[node];
-    if NODES <= parent {
-        return NONE;
-    }
-    t.above[parent]
+// How many nodes are kept, and the place of each node.
+#[derive(Clone, Copy)]
+pub struct Term {
+    nodes: u32,
+    place: [Place; NODES],
 }
 
 // Is a node kept under that parent?
-fn stays(p: Plan, node: usize, parent: usize) -> bool {
-    if NODES <= node {
+fn stays(p: &Plan, node: &Node, parent: Option<usize>) -> bool {
+    if node.kind == Kind::Xor {
         return false;
     }
-    if p.letter[node] == b'x' {
-        return false;
-    }
-    if NODES <= parent {
+    let Some(parent) = parent.and_then(|i| p.node.get(i)) else {
         return true;
-    }
-    p.letter[node] != p.letter[parent]
+    };
+    node.kind != parent.kind
 }
 
-fn with_child(t: Term, parent: usize) -> Term {
-    if NODES <= parent {
-        return t;
+impl Term {
+    // The kept node that a node comes under.
+    fn parent(&self, node: &Node) -> Option<usize> {
+        self.place.get(node.parent?)?.above
     }
-    let mut u = t;
-    u.children[parent] = std::num::wrapping_add_u32(t.children[parent], 1);
-    u
+
+    fn add_child(&mut self, parent: Option<usize>) {
+        if let Some(place) = parent.and_then(|i| self.place.get_mut(i)) {
+            place.children = place.children.saturating_add(1);
+        }
+    }
+
+    // A node that remains after the picks.
+    fn add(&mut self, p: &Plan, i: usize, node: &Node) {
+        let parent = self.parent(node);
+        let is_kept = stays(p, node, parent);
+        if is_kept {
+            self.add_child(parent);
+            self.nodes = self.nodes.saturating_add(1);
+        }
+        if let Some(place) = self.place.get_mut(i) {
+            place.is_kept = is_kept;
+            place.above = if is_kept { Some(i) } else { parent };
+        }
+    }
 }
 
-// A node that remains after the picks.
-fn with_node(t: Term, p: Plan, node: usize) -> Term {
-    if NODES <= node {
-        return t;
-    }
-    let parent = parent(t, p, node);
-    if !stays(p, node, parent) {
-        let mut u = t;
-        u.above[node] = parent;
-        return u;
-    }
-    let mut u = with_child(t, parent);
-    u.kept[node] = true;
-    u.above[node] = node;
-    u.nodes = std::num::wrapping_add_u32(t.nodes, 1);
-    u
-}
-
-pub fn chosen(p: Plan, v: Variant) -> Term {
+// The term of the nodes that remain after the picks.
+pub fn chosen(p: &Plan, v: &Variant) -> Term {
+    let none = Place {
+        is_kept: false,
+        above: None,
+        children: 0,
+    };
     let mut t = Term {
         nodes: 0,
-        kept: [false; NODES],
-        above: [NONE; NODES],
-        children: [0; NODES],
+        place: [none; NODES],
     };
-    for node in 0..NODES {
-        if v.remains[node] {
-            t = with_node(t, p, node);
+    for (i, node) in p.node.iter().enumerate() {
+        if v.remains[i] {
+            t.add(p, i, node);
         }
     }
     t
 }
 
-// An activity has its number, and a group how many children it has.
-fn put_node(out: &mut [u8], at: usize, p: Plan, t: Term, node: usize) -> usize {
-    if NODES <= node {
-        return at;
+// The lines of the nodes: an activity has its number, and a group how many children it has.
+pub fn put(writer: &mut Writer, p: &Plan, t: &Term) {
+    writer.line(b"nodes=", t.nodes);
+    for (node, place) in p.node.iter().zip(&t.place) {
+        if place.is_kept {
+            let number = match node.kind {
+                Kind::Act => node.number,
+                _ => place.children,
+            };
+            writer.node(node.kind.letter(), number);
+        }
     }
-    if !t.kept[node] {
-        return at;
-    }
-    let letter = p.letter[node];
-    if letter == b'a' {
-        return crate::text::node(out, at, letter, p.number[node]);
-    }
-    crate::text::node(out, at, letter, t.children[node])
-}
-
-// The lines of the nodes, from a place on; returns the place after them.
-pub fn put(out: &mut [u8], from: usize, p: Plan, t: Term) -> usize {
-    let mut at = from;
-    for node in 0..NODES {
-        at = put_node(out, at, p, t, node);
-    }
-    at
 }

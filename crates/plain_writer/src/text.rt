@@ -1,68 +1,67 @@
-// Lines written from a place on; each function returns the place after what it wrote. Past the end of the area nothing
-// is stored.
-fn byte(file: &[u8], at: usize) -> u8 {
-    if at < file.len() { file[at] } else { 0 }
+// The lines of a plan file.
+
+// An area that is written from the front. Past its end nothing is stored.
+#[derive(Drop)]
+pub struct Writer<'a> {
+    out: &'a mut [u8],
+    at: usize,
 }
 
-fn put(out: &mut [u8], at: usize, b: u8) -> usize {
-    if out.len() <= at {
-        return std::num::wrapping_add_usize(at, 1);
+impl<'a> Writer<'a> {
+    pub fn new(out: &'a mut [u8]) -> Writer<'a> {
+        Writer { out, at: 0 }
     }
-    out[at] = b;
-    at + 1
-}
 
-// The number of nodes has the first line that begins with an n; it is not the file's first line.
-fn head_length(file: &[u8]) -> usize {
-    for at in 0..file.len() {
-        let next = std::num::wrapping_add_usize(at, 1);
-        if (byte(file, at) == b'\n') & (byte(file, next) == b'n') {
-            return next;
+    // How many bytes were written.
+    pub fn at(&self) -> usize {
+        self.at
+    }
+
+    fn put(&mut self, b: u8) {
+        if let Some(place) = self.out.get_mut(self.at) {
+            *place = b;
+        }
+        self.at = self.at.saturating_add(1);
+    }
+
+    pub fn put_all(&mut self, bytes: &[u8]) {
+        for b in bytes {
+            self.put(*b);
         }
     }
-    file.len()
-}
 
-// The lines of a file before the number of nodes.
-pub fn head(file: &[u8], out: &mut [u8]) -> usize {
-    let bytes = head_length(file);
-    for i in 0..bytes {
-        put(out, i, byte(file, i));
+    // The last digit of a number.
+    fn digit(&mut self, n: u32) {
+        self.put((n % 10) as u8 + b'0');
     }
-    bytes
-}
 
-fn word(out: &mut [u8], from: usize, bytes: &[u8]) -> usize {
-    let mut at = from;
-    for i in 0..bytes.len() {
-        at = put(out, at, bytes[i]);
+    // A number below 100.
+    fn number(&mut self, n: u32) {
+        if 10 <= n {
+            self.digit(n / 10);
+        }
+        self.digit(n);
     }
-    at
-}
 
-// The last digit of a number.
-fn digit(out: &mut [u8], at: usize, n: u32) -> usize {
-    put(out, at, (n % 10) as u8 + b'0')
-}
-
-// A number below 100.
-fn number(out: &mut [u8], from: usize, n: u32) -> usize {
-    if n < 10 {
-        return digit(out, from, n);
+    // A key, its value and the end of the line.
+    pub fn line(&mut self, key: &[u8], n: u32) {
+        self.put_all(key);
+        self.number(n);
+        self.put(b'\n');
     }
-    let at = digit(out, from, n / 10);
-    digit(out, at, n)
+
+    pub fn node(&mut self, letter: u8, n: u32) {
+        self.put_all(b"node=");
+        self.put(letter);
+        self.line(b",", n);
+    }
 }
 
-// A key, its value and the end of the line.
-pub fn line(out: &mut [u8], from: usize, key: &[u8], n: u32) -> usize {
-    let mut at = word(out, from, key);
-    at = number(out, at, n);
-    put(out, at, b'\n')
-}
-
-pub fn node(out: &mut [u8], from: usize, letter: u8, n: u32) -> usize {
-    let mut at = word(out, from, b"node=");
-    at = put(out, at, letter);
-    line(out, at, b",", n)
+// The lines of a file before the number of nodes, whose line is the first that begins with an n; it is not the file's
+// first line.
+pub fn head(file: &[u8]) -> &[u8] {
+    match file.windows(2).position(|pair| pair == b"\nn".as_slice()) {
+        Some(i) => &file[..=i],
+        None => file,
+    }
 }

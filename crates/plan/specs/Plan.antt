@@ -1,19 +1,18 @@
--- A plan: what the lines of a plan file say.
-use Rattle.std.specs.Prelude.{ℕ, zero, suc, ◌*◌, Bool, true, false, cond, ◌&&◌, ◌||◌, List, [], ◌∷◌, ◌≡◌, leb, ltb, eqb, length, get_or, take, drop, replicate}
+-- A plan: what the lines of a plan file say. A node is one of the program's: `node=a,i`, `node=s,k`, `node=p,k` or
+-- `node=x,k`.
+use Rattle.std.specs.Prelude.{◌≡◌, ℕ, zero, suc, Bool, true, false, cond, ◌&&◌, ◌||◌, List, [], ◌∷◌, leb, ltb, eqb, length, get_or, take, drop, map, replicate}
 use Rattle.base.specs.Lists.{every, same_row}
 use Rattle.plan.specs.Limits.{most_resources, most_acts, most_nodes, says_units, is_edition, is_resource_count}
 use Rattle.plan.specs.Limits.{is_capacity, is_unit_count, is_act_count, is_duration, is_node_count, is_child_count}
+use Rattle.plan.specs.declared.Node.{Node}
+use Rattle.plan.specs.declared.Node.TheVariants.{Act, Seq, Pll, Xor}
 use Rattle.plan.specs.declared.Tables.{Tables}
+use Rattle.plan.specs.declared.Activity as Row
 
 -- An activity: its duration, and the units that it holds of each resource while it runs.
 pub record Activity : Type 0 where
   pub duration : ℕ
   pub units : List ℕ
-
--- `node=a,i`, `node=s,k`, `node=p,k`, `node=x,k`
-pub data Node : Type 0 where
-  activity : ℕ → Node
-  seq pll xor : ℕ → Node
 
 -- A resource is given by its capacity: the units that it has.
 pub record Plan : Type 0 where
@@ -45,16 +44,16 @@ activity_of edition resources vs =
 
 -- The letter and the number of a node, and the node of a letter and a number.
 abbrev pub letter_of : Node → ℕ
-letter_of (activity i) = 97
-letter_of (seq k) = 115
-letter_of (pll k) = 112
-letter_of (xor k) = 120
+letter_of (Act i) = 97
+letter_of (Seq k) = 115
+letter_of (Pll k) = 112
+letter_of (Xor k) = 120
 
 abbrev pub value_of : Node → ℕ
-value_of (activity i) = i
-value_of (seq k) = k
-value_of (pll k) = k
-value_of (xor k) = k
+value_of (Act i) = i
+value_of (Seq k) = k
+value_of (Pll k) = k
+value_of (Xor k) = k
 
 abbrev pub is_letter : ℕ → Bool
 is_letter b = eqb b 97 || eqb b 115 || eqb b 112 || eqb b 120
@@ -62,8 +61,8 @@ is_letter b = eqb b 97 || eqb b 115 || eqb b 112 || eqb b 120
 abbrev pub node_of : ℕ → ℕ → Node
 node_of b n =
     elim (eqb b 97) [
-      | true ↦ activity n
-      | false ↦ elim (eqb b 115) [ true ↦ seq n | false ↦ elim (eqb b 112) [ true ↦ pll n | false ↦ xor n ] ]
+      | true ↦ Act n
+      | false ↦ elim (eqb b 115) [ true ↦ Seq n | false ↦ elim (eqb b 112) [ true ↦ Pll n | false ↦ Xor n ] ]
     ]
 
 -- Each value in its range: a count of units for each resource, a resource below the plan's count, an activity's number
@@ -84,17 +83,17 @@ is_within (b ∷ bs) [] = true
 is_within (b ∷ bs) (u ∷ us) = leb u b && is_within bs us
 
 abbrev pub is_node : ℕ → Node → Bool
-is_node acts (activity i) = ltb i acts
-is_node acts (seq k) = is_child_count k
-is_node acts (pll k) = is_child_count k
-is_node acts (xor k) = is_child_count k
+is_node acts (Act i) = ltb i acts
+is_node acts (Seq k) = is_child_count k
+is_node acts (Pll k) = is_child_count k
+is_node acts (Xor k) = is_child_count k
 
 -- A group of a single child, which has a refusal of its own.
 abbrev pub is_group_of_one : Node → Bool
-is_group_of_one (activity i) = false
-is_group_of_one (seq k) = eqb k 1
-is_group_of_one (pll k) = eqb k 1
-is_group_of_one (xor k) = eqb k 1
+is_group_of_one (Act i) = false
+is_group_of_one (Seq k) = eqb k 1
+is_group_of_one (Pll k) = eqb k 1
+is_group_of_one (Xor k) = eqb k 1
 
 abbrev pub is_plan : Plan → Bool
 is_plan p =
@@ -105,49 +104,26 @@ is_plan p =
     && every (λ a. is_within p.capacities a.units) p.activities
     && is_node_count (length p.nodes) && every (is_node (length p.activities)) p.nodes
 
--- The plan that the program's tables hold: the units of an activity are a row of `most_resources` entries.
-abbrev pub activities_in : ℕ → List ℕ → List ℕ → List Activity
-activities_in resources [] us = []
-activities_in resources (d ∷ ds) us =
-    record { duration = d; units = take resources us } ∷ activities_in resources ds (drop most_resources us)
-
-abbrev pub nodes_of : List ℕ → List ℕ → List Node
-nodes_of [] ns = []
-nodes_of (b ∷ bs) [] = []
-nodes_of (b ∷ bs) (n ∷ ns) = node_of b n ∷ nodes_of bs ns
-
--- The nodes of the first n entries of a table of letters and one of numbers.
-abbrev pub nodes_in : ℕ → List ℕ → List ℕ → List Node
-nodes_in n letter number = nodes_of (take n letter) (take n number)
+-- The plan that the program's tables hold: an activity has units of the plan's resources alone.
+abbrev pub activity_in : ℕ → Row.Activity → Activity
+activity_in resources a = record { duration = a.duration; units = take resources a.units }
 
 abbrev pub plan_of : Tables → Plan
 plan_of t =
     record {
       edition = t.edition;
       capacities = take t.resources t.capacity;
-      activities = activities_in t.resources (take t.acts t.duration) t.units;
-      nodes = nodes_in t.nodes t.letter t.number;
-    }
-
--- The tables of no plan: every count and every entry 0.
-abbrev pub no_tables : Tables
-no_tables =
-    record {
-      edition = 0;
-      resources = 0;
-      capacity = replicate most_resources 0;
-      acts = 0;
-      duration = replicate most_acts 0;
-      units = replicate (most_acts * most_resources) 0;
-      nodes = 0;
-      letter = replicate most_nodes 0;
-      number = replicate most_nodes 0;
+      activities = map (activity_in t.resources) (take t.acts t.activity);
+      nodes = take t.nodes t.node;
     }
 
 -- The arrays of the tables have their lengths.
 pub record Sized (t : Tables) : Type 0 where
   pub capacity : length t.capacity ≡ most_resources
-  pub duration : length t.duration ≡ most_acts
-  pub units : length t.units ≡ most_acts * most_resources
-  pub letter : length t.letter ≡ most_nodes
-  pub number : length t.number ≡ most_nodes
+  pub activity : length t.activity ≡ most_acts
+  pub node : length t.node ≡ most_nodes
+
+-- The tables hold a plan whose values are in range.
+pub record Ranged (t : Tables) : Type 0 where
+  pub ranges : is_plan (plan_of t) ≡ true
+  pub sized : Sized t

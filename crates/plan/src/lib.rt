@@ -1,10 +1,11 @@
 // A plan as the program keeps it, and the refusals of every call.
 #![tactic(auto)]
 
-ghost use Rattle.std.specs.Prelude.{ℕ, ◌≡◌};
-ghost use Rattle.plan.specs.Limits.{says_units};
-ghost use Rattle.plan.specs.Refusals.{number_of, figure_of};
-ghost use Rattle.plan.specs.Plan.{letter_of, node_of, no_tables};
+ghost use Rattle.std.specs.Prelude.{◌≡◌, ◌≤◌, take};
+ghost use Rattle.plan.specs.Limits.{says_units, most_resources, most_acts, most_nodes};
+
+use std::error::Error;
+use std::fmt;
 
 // The limits of the plan file, as in `specs/Limits.antt`, each in the type of what it bounds.
 pub const LAST_EDITION: u32 = 2;
@@ -48,7 +49,7 @@ pub const NODES_FORM: [u8; 8] = *b"nodes=#\n";
 pub const NODE_FORM: [u8; 9] = *b"node=@,#\n";
 
 // Why a call turns its input back. `number_of` and `figure_of` give the paper's number and figure of each case.
-#[derive(Clone, Copy)]
+#[derive(Clone, Copy, Debug, PartialEq, Eq)]
 pub enum Refusal {
     Length,
     Form(u64),
@@ -63,89 +64,153 @@ pub enum Refusal {
     AreaTooShort(u64),
 }
 
-pub fn number(r: Refusal) -> u64
-    ensures { result ≡ number_of r }
-{
-    match r {
-        Refusal::Length => 1,
-        Refusal::Form(_) => 2,
-        Refusal::Range(_) => 3,
-        Refusal::GroupOfOne(_) => 10,
-        Refusal::OverCapacity(_) => 11,
-        Refusal::NotOneTerm => 4,
-        Refusal::Twice => 5,
-        Refusal::TooManyVariants => 6,
-        Refusal::NoSuchVariant => 9,
-        Refusal::OverCap => 7,
-        Refusal::AreaTooShort(_) => 8,
+impl Refusal {
+    ghost use Rattle.plan.specs.Refusals.{number_of, figure_of};
+
+    pub fn number(self) -> u64
+        ensures { result ≡ number_of self }
+    {
+        match self {
+            Refusal::Length => 1,
+            Refusal::Form(_) => 2,
+            Refusal::Range(_) => 3,
+            Refusal::GroupOfOne(_) => 10,
+            Refusal::OverCapacity(_) => 11,
+            Refusal::NotOneTerm => 4,
+            Refusal::Twice => 5,
+            Refusal::TooManyVariants => 6,
+            Refusal::NoSuchVariant => 9,
+            Refusal::OverCap => 7,
+            Refusal::AreaTooShort(_) => 8,
+        }
+    }
+
+    pub fn figure(self) -> u64
+        ensures { result ≡ figure_of self }
+    {
+        match self {
+            Refusal::Form(line)
+            | Refusal::Range(line)
+            | Refusal::GroupOfOne(line)
+            | Refusal::OverCapacity(line) => line,
+            Refusal::AreaTooShort(needed) => needed,
+            _ => 0,
+        }
     }
 }
 
-pub fn figure(r: Refusal) -> u64
-    ensures { result ≡ figure_of r }
-{
-    match r {
-        Refusal::Length => 0,
-        Refusal::Form(line) => line,
-        Refusal::Range(line) => line,
-        Refusal::GroupOfOne(line) => line,
-        Refusal::OverCapacity(line) => line,
-        Refusal::NotOneTerm => 0,
-        Refusal::Twice => 0,
-        Refusal::TooManyVariants => 0,
-        Refusal::NoSuchVariant => 0,
-        Refusal::OverCap => 0,
-        Refusal::AreaTooShort(needed) => needed,
+// The reason in words, a sentence.
+impl fmt::Display for Refusal {
+    fn fmt<W: fmt::Write>(&self, f: &mut fmt::Formatter<W>) -> fmt::Result {
+        f.write_str(match self {
+            Refusal::Length => "The plan file is empty or longer than 2175 bytes.",
+            Refusal::Form(_) => {
+                "The line of that number is absent or ill formed, or follows the last line of the plan."
+            }
+            Refusal::Range(_) => "A value on the line of that number is out of its range.",
+            Refusal::GroupOfOne(_) => "The group on the line of that number has a single child.",
+            Refusal::OverCapacity(_) => {
+                "A count of units on the line of that number is above the capacity of its device."
+            }
+            Refusal::NotOneTerm => "The nodes are not one whole term.",
+            Refusal::Twice => "Some variant has an activity twice.",
+            Refusal::TooManyVariants => "The plan has more than 4096 variants.",
+            Refusal::NoSuchVariant => "The plan has no variant of that number.",
+            Refusal::OverCap => "The plan has more active sessions than the cap.",
+            Refusal::AreaTooShort(_) => {
+                "The answer needs as much room as the figure says, which is more than there is."
+            }
+        })
     }
 }
 
-// The cells of the table of units: a row of MOST_RESOURCES for each activity.
-pub const UNIT_CELLS: usize = MOST_ACTS * MOST_RESOURCES;
+impl Error for Refusal {}
 
-// The values of a plan file: the capacity of each of `resources` resources, a duration for each of `acts` activities
-// and the units that it holds of each resource, and for each of `nodes` nodes its letter and its number. What stands
-// past those counts means nothing.
+// An activity: its duration, and the units that it holds of each resource while it runs.
+#[derive(Clone, Copy)]
+pub struct Activity {
+    pub duration: u16,
+    pub units: [u8; MOST_RESOURCES],
+}
+
+// A node of the term: an activity by its number, or a group by how many children follow: all of them in sequence or
+// side by side, or one of them.
+#[derive(Clone, Copy, Debug, PartialEq, Eq)]
+pub enum Node {
+    Act(u8),
+    Seq(u8),
+    Pll(u8),
+    Xor(u8),
+}
+
+impl Node {
+    ghost use Rattle.plan.specs.Plan.{node_of, letter_of, value_of};
+
+    // There is no letter other than these four.
+    pub fn of(letter: u8, number: u8) -> Node
+        ensures { result ≡ node_of letter number }
+    {
+        match letter {
+            b'a' => Node::Act(number),
+            b's' => Node::Seq(number),
+            b'p' => Node::Pll(number),
+            _ => Node::Xor(number),
+        }
+    }
+
+    pub fn letter(self) -> u8
+        ensures { result ≡ letter_of self }
+    {
+        match self {
+            Node::Act(_) => b'a',
+            Node::Seq(_) => b's',
+            Node::Pll(_) => b'p',
+            Node::Xor(_) => b'x',
+        }
+    }
+
+    pub fn number(self) -> u8
+        ensures { result ≡ value_of self }
+    {
+        match self {
+            Node::Act(n) | Node::Seq(n) | Node::Pll(n) | Node::Xor(n) => n,
+        }
+    }
+}
+
+// The values of a plan file. The memory is fixed, so that each table has a count beside it: what stands past it means
+// nothing, and so do the units of resources that the plan does not have.
 #[derive(Clone, Copy)]
 pub struct Tables {
     pub edition: u16,
     pub resources: usize,
     pub capacity: [u8; MOST_RESOURCES],
     pub acts: usize,
-    pub duration: [u16; MOST_ACTS],
-    pub units: [u8; UNIT_CELLS],
+    pub activity: [Activity; MOST_ACTS],
     pub nodes: usize,
-    pub letter: [u8; MOST_NODES],
-    pub number: [u8; MOST_NODES],
+    pub node: [Node; MOST_NODES],
+    pub ghost resources_held: { resources ≤ most_resources },
+    pub ghost acts_held: { acts ≤ most_acts },
+    pub ghost nodes_held: { nodes ≤ most_nodes },
 }
 
 impl Tables {
-    // The tables of no plan: every count and every entry 0.
-    pub fn empty() -> Tables
-        ensures { result ≡ no_tables }
+    pub fn capacities(&self) -> &[u8]
+        ensures { result.now ≡ take self.now.resources self.now.capacity }
     {
-        Tables {
-            edition: 0,
-            resources: 0,
-            capacity: [0; MOST_RESOURCES],
-            acts: 0,
-            duration: [0; MOST_ACTS],
-            units: [0; UNIT_CELLS],
-            nodes: 0,
-            letter: [0; MOST_NODES],
-            number: [0; MOST_NODES],
-        }
+        &self.capacity[..self.resources]
     }
-}
 
-// The letter of the node that a letter names: there is no other than these four.
-pub fn letter_of(letter: u32) -> u8
-    ensures { (n : ℕ) → result ≡ letter_of (node_of letter n) }
-{
-    match letter {
-        97 => b'a',
-        115 => b's',
-        112 => b'p',
-        _ => b'x',
+    pub fn activities(&self) -> &[Activity]
+        ensures { result.now ≡ take self.now.acts self.now.activity }
+    {
+        &self.activity[..self.acts]
+    }
+
+    pub fn all_nodes(&self) -> &[Node]
+        ensures { result.now ≡ take self.now.nodes self.now.node }
+    {
+        &self.node[..self.nodes]
     }
 }
 

@@ -21,11 +21,15 @@ use Rattle.variant.specs.Pairs.{sessions_of, pairs, pair_count}
 use Rattle.variant.specs.Timetable.{timetable_of}
 use Rattle.answers.specs.Shortest.{row_span, shortest_pairs, shortest_count, first_shortest, best_row}
 use Rattle.answers.specs.declared.Best.{Best}
-use Rattle.answers.specs.declared.BestAnswer.TheVariants.{Found}
 use Rattle.plan_exact.proofs.Variant.{chosen}
 use Rattle.plan_exact.proofs.Found.{variant_span}
 use Rattle.plan_exact.proofs.Pairs.{Pair, row_pair, pair_mem}
 use Rattle.plan_exact.proofs.Shortest.{First, first_unique, first_shortest_lem, first_span}
+
+-- BEST's answer by its numbers and starts.
+abbrev pub found : ℕ → ℕ → ℕ → ℕ → List ℕ → Best
+found v span n shortest starts =
+    record { variant = v; makespan = span; count = n; shortest = shortest; timetable = record { starts = starts } }
 
 -- The latest end of a session of variant v.
 abbrev pub end_at : Plan → Term → ℕ → List ℕ → ℕ
@@ -100,8 +104,9 @@ module _ (p : Plan) (t : Term) (valid : Valid p t) where
 
     -- So it is what BEST answers.
     pub earliest_best : (best : Best)
-        → best.answer ≡ Found v (end_at p t v ss) (pair_count p t) (shortest_count p t)
-        → best.timetable.starts ≡ timetable_of p ss → best ≡ best_row p t (first_shortest p t)
-    earliest_best best answer timetable =
-        let told = answer ∙ ap (λ (n : ℕ). Found v n (pair_count p t) (shortest_count p t)) own in
-        (λ i. record { answer = told i; timetable = record { starts = timetable i } }) ∙ ap (best_row p t) same
+        → best ≡ found v (end_at p t v ss) (pair_count p t) (shortest_count p t) (timetable_of p ss)
+        → best ≡ best_row p t (first_shortest p t)
+    earliest_best best answer =
+        answer
+        ∙ ap (λ (n : ℕ). found v n (pair_count p t) (shortest_count p t) (timetable_of p ss)) own
+        ∙ ap (best_row p t) same

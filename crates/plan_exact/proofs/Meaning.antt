@@ -44,8 +44,7 @@ use Rattle.answers.specs.Listed.{cells_needed, list_within, list_by, list_of}
 use Rattle.answers.specs.Shortest.{makespan_in, row_starts, row_span, shortest_pairs, shortest_count, first_shortest}
 use Rattle.answers.specs.Words.{ActiveForSome, IsRow, StandsBefore, Listing, ListingOf, SpanOf, NoLonger}
 use Rattle.answers.specs.Words.{FirstShortest, ShortestRows}
-use Rattle.answers.specs.declared.ListAnswer.{ListAnswer}
-use Rattle.answers.specs.declared.ListAnswer.TheVariants.{Listed, Refused}
+use Rattle.std.specs.Prelude.{Result, Ok, Err}
 use Rattle.plan_exact.proofs.Variant.{chosen, box_unmarked}
 use Rattle.plan_exact.proofs.Union.{session_marks, Lowest, lowest}
 use Rattle.plan_exact.proofs.Pairs.{Pair, row_pair, pair_mem}
@@ -306,7 +305,7 @@ module _ (p : Plan) (t : Term) (valid : Valid p t) where
         count = refl;
       }
 
-never : {A : Type 0} {r : Refusal} {n : ℕ} → Listed n ≡ Refused r → A
+never : {A : Type 0} {r : Refusal} {n : ℕ} → ◌≡◌ {A = Result ℕ Refusal} (Ok n) (Err r) → A
 never e = absurd (let z : ◌≡◌ {A = ℕ} 0 1 = cc in omega arith)
 
 -- What LIST leaves in the area when it answers n.
@@ -317,7 +316,7 @@ module _ (s : List ℕ) (n : ℕ) (before after : List ℕ) (p : Plan) (t : Term
   row_long : (row : List ℕ) → IsRow p t row → length row ≡ width
   row_long row r = ap length r.whole ∙ ap suc r.session.long
 
-  listed : Listed (pair_count p t) ≡ Listed n → cells_of (pairs p t) ++ drop (cells_needed p t) before ≡ after
+  listed : ◌≡◌ {A = Result ℕ Refusal} (Ok (pair_count p t)) (Ok n) → cells_of (pairs p t) ++ drop (cells_needed p t) before ≡ after
       → ListingOf s n before after
   unfolding pair_count
   listed answer cells =
@@ -334,20 +333,20 @@ module _ (s : List ℕ) (n : ℕ) (before after : List ℕ) (p : Plan) (t : Term
         listing = listing;
       }
 
-  within : (a b : Bool) → list_within a b p t before ≡ record { answer = Listed n; area = after }
+  within : (a b : Bool) → list_within a b p t before ≡ record { answer = Ok n; area = after }
       → ListingOf s n before after
-  within false b h = never (sym (ap (λ (o : Outcome ListAnswer). o.answer) h))
-  within true false h = never (sym (ap (λ (o : Outcome ListAnswer). o.answer) h))
+  within false b h = never (sym (ap (λ (o : Outcome (Result ℕ Refusal)). o.answer) h))
+  within true false h = never (sym (ap (λ (o : Outcome (Result ℕ Refusal)). o.answer) h))
   within true true h =
-      listed (ap (λ (o : Outcome ListAnswer). o.answer) h) (ap (λ (o : Outcome ListAnswer). o.area) h)
+      listed (ap (λ (o : Outcome (Result ℕ Refusal)). o.answer) h) (ap (λ (o : Outcome (Result ℕ Refusal)). o.area) h)
 
 module _ (s : List ℕ) (cap n : ℕ) (before after : List ℕ) where
-  by_verdict : (o : Verdict) → judge s ≡ o → list_by o cap before ≡ record { answer = Listed n; area = after }
+  by_verdict : (o : Verdict) → judge s ≡ o → list_by o cap before ≡ record { answer = Ok n; area = after }
       → ListingOf s n before after
   by_verdict (accepts p t) e h =
       within s n before after p t e (leb (pair_count p t) cap) (leb (cells_needed p t) (length before)) h
-  by_verdict (refuses r) e h = never (sym (ap (λ (o : Outcome ListAnswer). o.answer) h))
+  by_verdict (refuses r) e h = never (sym (ap (λ (o : Outcome (Result ℕ Refusal)). o.answer) h))
 
-  pub list_listing : list_of s cap before ≡ record { answer = Listed n; area = after } → ListingOf s n before after
+  pub list_listing : list_of s cap before ≡ record { answer = Ok n; area = after } → ListingOf s n before after
   unfolding list_of
   list_listing h = by_verdict (judge s) refl h

@@ -4,59 +4,53 @@
 mod usage;
 mod words;
 
+use std::io;
 use std::io::{Read, Write};
-use words::{Command, Request};
+use words::{Call, Request};
 
-fn put_written<W: Write>(out: &mut W, file: &[u8], variant: u32) -> bool {
+fn put_written<W: Write>(out: &mut W, file: &[u8], variant: u32) -> io::Result<()> {
     let mut area = [0u8; printer::BYTES];
     printer::put_written(out, file, variant, &mut area)
 }
 
-fn put_listed<W: Write>(out: &mut W, file: &[u8], cap: u32) -> bool {
+fn put_listed<W: Write>(out: &mut W, file: &[u8], cap: u32) -> io::Result<()> {
     let mut area = [0u32; printer::CELLS];
     printer::put_listed(out, file, cap, &mut area)
 }
 
-fn put_answer<W: Write>(out: &mut W, request: Request, file: &[u8]) -> bool {
-    let command = request.command;
-    let timetable = request.timetable;
-    match command {
-        Command::Read => printer::put_read(out, file),
-        Command::Write => put_written(out, file, request.number),
-        Command::Check => printer::put_checked(out, file, request.number, timetable),
-        Command::Count => printer::put_counted(out, file, request.number),
-        Command::List => put_listed(out, file, request.number),
-        Command::Best => printer::put_best(out, file, request.number),
-        Command::Help | Command::Wrong => true,
+fn put_answer<W: Write>(out: &mut W, call: Call, file: &[u8]) -> io::Result<()> {
+    match call {
+        Call::Read => printer::put_read(out, file),
+        Call::Write(variant) => put_written(out, file, variant),
+        Call::Check(variant, timetable) => printer::put_checked(out, file, variant, timetable),
+        Call::Count(cap) => printer::put_counted(out, file, cap),
+        Call::List(cap) => put_listed(out, file, cap),
+        Call::Best(cap) => printer::put_best(out, file, cap),
     }
 }
 
 // Reads the plan file and prints the answer.
-fn serve<R: Read, W: Write, E: Write>(reader: &mut R, out: &mut W, err: &mut E, request: Request) {
+fn serve<R: Read, W: Write, E: Write>(reader: &mut R, out: &mut W, err: &mut E, call: Call) {
     let mut file = [0u8; console::FILE];
-    let input = console::read_input(reader, &mut file);
-    if !input.is_read {
-        console::fail(err, b"standard input");
+    let Ok(n) = console::read_input(reader, &mut file) else {
+        console::fail(err, "standard input");
         return;
-    }
-    let n = input.length;
-    if !put_answer(out, request, &file[..n]) {
-        console::fail(err, b"standard output");
+    };
+    if put_answer(out, call, &file[..n]).is_err() {
+        console::fail(err, "standard output");
     }
 }
 
 fn main(rt: HostRuntime) {
     let mut out = rt.stdout();
     let mut err = rt.stderr();
-    let request = words::read_words(&rt, &mut err);
-    let command = request.command;
-    match command {
-        Command::Wrong => {}
-        Command::Help => {
-            if !usage::put_usage(&mut out) {
-                console::fail(&mut err, b"standard output");
+    match words::read_words(&rt) {
+        Ok(Request::Call(call)) => serve(&mut rt.stdin(), &mut out, &mut err, call),
+        Ok(Request::Help) => {
+            if usage::put_usage(&mut out).is_err() {
+                console::fail(&mut err, "standard output");
             }
         }
-        _ => serve(&mut rt.stdin(), &mut out, &mut err, request),
+        Err(wrong) => usage::complain(&rt, &mut err, wrong),
     }
 }

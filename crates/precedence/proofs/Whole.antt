@@ -2,11 +2,12 @@
 use Prim.Native.Nat.{ℕ, zero, suc, ◌^◌, ◌<◌}
 use mathlib.Core.Path.{◌≡◌, refl, sym, ap, ◌∙◌, subst}
 use mathlib.Core.Bool.{Bool, ◌&&◌, ◌||◌, and-false}
-use mathlib.Core.List.{List, [], append-nil}
+use mathlib.Core.List.{List, [], ◌++◌, append-nil}
 use mathlib.Core.Option.{some}
 use lib.Dec.{lit<}
-use lib.ListN.{take, get_or, replicate}
-use Rattle.plan.specs.Plan.{nodes_of, is_node}
+use lib.ListN.{get_or, replicate}
+use Rattle.plan.specs.Plan.{is_node}
+use Rattle.plan.specs.declared.Node.{Node}
 use Rattle.base.specs.Lists.{every}
 use Rattle.sets.specs.Sets.{most, has}
 use Rattle.sets.proofs.Laws.{has_none}
@@ -18,6 +19,7 @@ use Rattle.variant.specs.Tables.{OrderOf}
 use Rattle.precedence.specs.declared.Walk.{Walk}
 use Rattle.precedence.specs.Order.{OneTerm}
 use Rattle.precedence.specs.Walk.{TermAt, Low, OrderRead}
+use Rattle.precedence.proofs.Places.{inside}
 
 none_yet : (n j : ℕ) → ◌≡◌ {A = ℕ} (get_or (replicate n 0) j 0) 0
 none_yet zero j = refl
@@ -32,21 +34,22 @@ low_at_first =
       each = λ j. subst (λ (x : ℕ). x < 2 ^ most) (sym (none_yet most j)) (lit< tt);
     }
 
-pub begins : (letter number : List ℕ) (n : ℕ) → OneTerm letter number n → TermAt (take n letter) (take n number) 0
-begins letter number n h =
-    let written = nodes_term_of (nodes_of (take n letter) (take n number)) h.term h.read in
+pub begins : (ns : List Node) → OneTerm ns → TermAt ns 0
+begins ns h =
+    let written = nodes_term_of ns h.term h.read in
+    let all : nodes h.term ++ [] ≡ ns = append-nil (nodes h.term) ∙ written in
     record {
+      inside = inside ns 0 h.term [] all;
       term = h.term;
       rest = [];
-      begins = append-nil (nodes h.term) ∙ written;
+      begins = all;
       ranged = ap (every (is_node most)) written ∙ h.ranged;
     }
 
-pub found : (bs ns preds : List ℕ) (w : Walk) → OrderRead bs ns 0 0 (replicate most 0) preds w → (t : Term)
-    → term_of (nodes_of bs ns) ≡ some t
-    → OrderOf t w.set preds
-found bs ns preds w h t e =
-    let joins = h t [] (append-nil (nodes t) ∙ nodes_term_of (nodes_of bs ns) t e) in
+pub found : (ns : List Node) (preds : List ℕ) (w : Walk) → OrderRead ns 0 0 (replicate most 0) preds w → (t : Term)
+    → term_of ns ≡ some t → OrderOf t w.set preds
+found ns preds w h t e =
+    let joins = h.joins t [] (append-nil (nodes t) ∙ nodes_term_of ns t e) in
     record {
       small = joins.small;
       members = joins.members;

@@ -2,7 +2,8 @@
 -- contract of `ordered` speaks of `OrderOf`.
 use Rattle.std.specs.Prelude.{ℕ, ◌+◌, ◌^◌, ◌<◌, ◌≡◌, Bool, true, false, ◌&&◌, ◌||◌, List, ◌++◌, length, drop, get_or}
 use Rattle.std.specs.Int.Bits.{bit_or}
-use Rattle.plan.specs.Plan.{Node, nodes_of, is_node}
+use Rattle.plan.specs.Plan.{is_node}
+use Rattle.plan.specs.declared.Node.{Node}
 use Rattle.base.specs.Lists.{every}
 use Rattle.sets.specs.Sets.{most, has}
 use Rattle.term.specs.Term.{Term, Forest, size, nodes, nodes_of_all}
@@ -16,17 +17,18 @@ after_of true before child = bit_or before child
 after_of false before child = before
 
 -- The nodes from a place on begin with a term, or with that many children; its numbers are in range.
-pub record TermAt (letter number : List ℕ) (at : ℕ) : Type 0 where
+pub record TermAt (ns : List Node) (at : ℕ) : Type 0 where
+  pub inside : at < length ns
   pub term : Term
   pub rest : List Node
-  pub begins : nodes term ++ rest ≡ drop at (nodes_of letter number)
+  pub begins : nodes term ++ rest ≡ drop at ns
   pub ranged : every (is_node most) (nodes term) ≡ true
 
-pub record ForestAt (letter number : List ℕ) (at left : ℕ) : Type 0 where
+pub record ForestAt (ns : List Node) (at left : ℕ) : Type 0 where
   pub children : Forest
   pub rest : List Node
   pub count : size children ≡ left
-  pub begins : nodes_of_all children ++ rest ≡ drop at (nodes_of letter number)
+  pub begins : nodes_of_all children ++ rest ≡ drop at ns
   pub ranged : every (is_node most) (nodes_of_all children) ≡ true
 
 -- `most` sets of `most` activities, and one more.
@@ -51,12 +53,12 @@ pub record OrderJoined (acts : List ℕ) (order : ℕ → ℕ → Bool) (next be
 abbrev pub among : Bool → Forest → ℕ → ℕ → Bool
 among in_sequence f i j = in_sequence && earlier f i j || within_one f i j
 
-abbrev pub OrderRead : List ℕ → List ℕ → ℕ → ℕ → List ℕ → List ℕ → Walk → Type 0
-OrderRead letter number at before preds found w =
-    (t : Term) (rest : List Node) → nodes t ++ rest ≡ drop at (nodes_of letter number)
-    → OrderJoined (activities t) (precedes t) (at + length (nodes t)) before preds found w
+-- What they return, and make of `preds`, for the term, or for the children, that the nodes begin with.
+pub record OrderRead (ns : List Node) (at before : ℕ) (preds found : List ℕ) (w : Walk) : Type 0 where
+  pub joins : (t : Term) (rest : List Node) → nodes t ++ rest ≡ drop at ns
+      → OrderJoined (activities t) (precedes t) (at + length (nodes t)) before preds found w
 
-abbrev pub OrderReadAll : List ℕ → List ℕ → ℕ → ℕ → ℕ → Bool → List ℕ → List ℕ → Walk → Type 0
-OrderReadAll letter number at left before in_sequence preds found w =
-    (f : Forest) (rest : List Node) → size f ≡ left → nodes_of_all f ++ rest ≡ drop at (nodes_of letter number)
-    → OrderJoined (activities_of_all f) (among in_sequence f) (at + length (nodes_of_all f)) before preds found w
+pub record OrderReadAll (ns : List Node) (at left before : ℕ) (in_sequence : Bool) (preds found : List ℕ)
+    (w : Walk) : Type 0 where
+  pub joins : (f : Forest) (rest : List Node) → size f ≡ left → nodes_of_all f ++ rest ≡ drop at ns
+      → OrderJoined (activities_of_all f) (among in_sequence f) (at + length (nodes_of_all f)) before preds found w

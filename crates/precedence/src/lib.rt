@@ -13,7 +13,7 @@ ghost use Rattle.precedence.specs.Order.{OneTerm, Ordered};
 ghost use Rattle.precedence.specs.Walk.{after_of, TermAt, ForestAt, Low, OrderJoined, OrderRead, OrderReadAll};
 
 use judge::Campaign;
-use plan::{MOST_ACTS, MOST_NODES};
+use plan::{MOST_ACTS, Node};
 use variant::Variant;
 
 // What a reader found: the node after what it read, and its activities.
@@ -37,8 +37,7 @@ fn after(before: u32, child: u32, in_sequence: bool) -> u32
 // The walk of one activity, whose node stands before `next`.
 fn activity(i: usize, next: usize, before: u32, preds: &mut [u32; MOST_ACTS]) -> Walk
     requires { (i < most) × Low before preds.old }
-    ensures { OrderJoined (activities (act i)) (precedes (act i)) next before preds.old preds.new
-        result }
+    ensures { OrderJoined (activities (act i)) (precedes (act i)) next before preds.old preds.new result }
 {
     preds[i] = sets::union(preds[i], before);
     Walk {
@@ -49,63 +48,50 @@ fn activity(i: usize, next: usize, before: u32, preds: &mut [u32; MOST_ACTS]) ->
 
 // The term that begins at a node.
 #[cycle(children_term)]
-fn term(letter: &[u8], number: &[u8], at: usize, before: u32, preds: &mut [u32; MOST_ACTS]) -> Walk
-    requires { TermAt letter.now number.now at × Low before preds.old }
-    ensures { OrderRead letter.now number.now at before preds.old preds.new
-        result }
+fn term(nodes: &[Node], at: usize, before: u32, preds: &mut [u32; MOST_ACTS]) -> Walk
+    requires { TermAt nodes.now at × Low before preds.old }
+    ensures { OrderRead nodes.now at before preds.old preds.new result }
 {
-    let b = letter[at];
-    let n = number[at] as usize;
-    if b == b'a' {
-        return activity(n, at + 1, before, preds);
+    let node = nodes[at];
+    match node {
+        Node::Act(i) => activity(usize::from(i), at + 1, before, preds),
+        Node::Seq(k) => children(nodes, at + 1, k, before, true, preds),
+        Node::Pll(k) | Node::Xor(k) => children(nodes, at + 1, k, before, false, preds),
     }
-    children(letter, number, at + 1, n, before, b == b's', preds)
 }
 
 // The children that begin at a node, `left` of them.
 #[cycle(children_term)]
 fn children(
-    letter: &[u8],
-    number: &[u8],
+    nodes: &[Node],
     at: usize,
-    left: usize,
+    left: u8,
     before: u32,
     in_sequence: bool,
     preds: &mut [u32; MOST_ACTS],
 ) -> Walk
-    requires { ForestAt letter.now number.now at left × Low before preds.old }
-    ensures { OrderReadAll letter.now number.now at left before in_sequence preds.old
-        preds.new result }
+    requires { ForestAt nodes.now at left × Low before preds.old }
+    ensures { OrderReadAll nodes.now at left before in_sequence preds.old preds.new result }
 {
     if left == 0 {
         return Walk { next: at, set: 0 };
     }
-    let first = term(letter, number, at, before, preds);
+    let first = term(nodes, at, before, preds);
     let before_rest = after(before, first.set, in_sequence);
-    let rest = children(
-        letter,
-        number,
-        first.next,
-        left - 1,
-        before_rest,
-        in_sequence,
-        preds,
-    );
+    let rest = children(nodes, first.next, left - 1, before_rest, in_sequence, preds);
     Walk {
         next: rest.next,
         set: sets::union(first.set, rest.set),
     }
 }
 
-// The order of the term that the first `nodes` nodes of the tables are.
-fn ordered(letter: &[u8; MOST_NODES], number: &[u8; MOST_NODES], nodes: usize) -> Variant
-    requires { OneTerm letter.now number.now nodes }
-    ensures { Ordered letter.now number.now nodes result }
+// The order of the term that the nodes are.
+fn ordered(nodes: &[Node]) -> Variant
+    requires { OneTerm nodes.now }
+    ensures { Ordered nodes.now result }
 {
-    let letters: &[u8] = letter;
-    let numbers: &[u8] = number;
     let mut preds = [0; MOST_ACTS];
-    let w = term(&letters[..nodes], &numbers[..nodes], 0, 0, &mut preds);
+    let w = term(nodes, 0, 0, &mut preds);
     Variant {
         present: w.set,
         preds,
@@ -113,16 +99,11 @@ fn ordered(letter: &[u8; MOST_NODES], number: &[u8; MOST_NODES], nodes: usize) -
 }
 
 // Variant v of an accepted plan in tables.
-pub fn tabled(campaign: Campaign, v: u32) -> Variant
-    requires { (t : Term) × HoldsVariant campaign t v }
-    ensures { (t : Term) → HoldsVariant campaign t v
+pub fn tabled(campaign: &Campaign, v: u32) -> Variant
+    requires { (t : Term) × HoldsVariant campaign.now t v }
+    ensures { (t : Term) → HoldsVariant campaign.now t v
         → OrderOf (variant_at t v) result.present result.preds }
 {
-    let spans = campaign.spans;
-    let letter = campaign.tables.letter;
-    let number = campaign.tables.number;
-    let picked = pick::pick(letter, number, campaign.tables.nodes, spans, v);
-    let letters = picked.letter;
-    let numbers = picked.number;
-    ordered(&letters, &numbers, picked.nodes)
+    let picked = pick::pick(campaign.tables.all_nodes(), &campaign.spans, v);
+    ordered(picked.all_nodes())
 }

@@ -1,14 +1,13 @@
 // The answers of the calls, printed. A refusal is its number, its figure and the reason in words.
 #![tactic(auto)]
 
-use answers::{BestAnswer, ListAnswer};
-use console::{put, put_line};
-use inspect::CheckAnswer;
+ghost use Rattle.std.specs.Prelude.{◌*◌, ◌<◌, ◌≤◌, IfOk, length};
+
+use answers::Best;
 use plan::Refusal;
-use read::ReadAnswer;
+use std::io;
 use std::io::Write;
 use timetable::Timetable;
-use write::WriteAnswer;
 
 mod rows;
 
@@ -19,89 +18,97 @@ pub const BYTES: usize = plan::LONGEST;
 // The area for the rows of the program `planner`.
 pub const CELLS: usize = 262144;
 
-fn put_refused<W: Write>(out: &mut W, refusal: Refusal) -> bool {
-    console::put_refusal(out, refusal) && console::put_reason(out, refusal)
+fn put_refused<W: Write>(out: &mut W, refusal: Refusal) -> io::Result<()> {
+    console::put_refusal(out, refusal)?;
+    console::put_reason(out, refusal)
 }
 
-pub fn put_read<W: Write>(out: &mut W, file: &[u8]) -> bool {
+pub fn put_read<W: Write>(out: &mut W, file: &[u8]) -> io::Result<()> {
     match read::read(file) {
-        ReadAnswer::Read {
-            acts,
-            nodes,
-            variants,
-        } => put_line(out, b"acts=", acts)
-            && put_line(out, b"nodes=", nodes)
-            && put_line(out, b"variants=", variants),
-        ReadAnswer::Refused(r) => put_refused(out, r),
-    }
-}
-
-pub fn put_written<W: Write>(out: &mut W, file: &[u8], variant: u32, area: &mut [u8]) -> bool {
-    match write::write(file, variant, area) {
-        WriteAnswer::Written(n) => put(out, &area[..n as usize]),
-        WriteAnswer::Refused(r) => put_refused(out, r),
-    }
-}
-
-pub fn put_checked<W: Write>(out: &mut W, file: &[u8], variant: u32, timetable: Timetable) -> bool {
-    match inspect::check(file, variant, timetable) {
-        CheckAnswer::Checked(is_feasible) => {
-            if is_feasible {
-                put(out, b"feasible=yes\n")
-            } else {
-                put(out, b"feasible=no\n")
-            }
+        Ok(counts) => {
+            writeln!(out, "acts={}", counts.acts)?;
+            writeln!(out, "nodes={}", counts.nodes)?;
+            writeln!(out, "variants={}", counts.variants)
         }
-        CheckAnswer::Refused(r) => put_refused(out, r),
+        Err(refusal) => put_refused(out, refusal),
+    }
+}
+
+pub fn put_written<W: Write>(
+    out: &mut W,
+    file: &[u8],
+    variant: u32,
+    area: &mut [u8],
+) -> io::Result<()> {
+    match write::write(file, variant, area) {
+        Ok(length) => out.write_all(&area[..length]),
+        Err(refusal) => put_refused(out, refusal),
+    }
+}
+
+pub fn put_checked<W: Write>(
+    out: &mut W,
+    file: &[u8],
+    variant: u32,
+    timetable: Timetable,
+) -> io::Result<()> {
+    match inspect::check(file, variant, timetable) {
+        Ok(true) => writeln!(out, "feasible=yes"),
+        Ok(false) => writeln!(out, "feasible=no"),
+        Err(refusal) => put_refused(out, refusal),
     }
 }
 
 // How many active sessions there are, and how many of these are shortest.
-fn put_counts<W: Write>(out: &mut W, count: u64, shortest: u64) -> bool {
-    put_line(out, b"count=", count) && put_line(out, b"shortest=", shortest)
+fn put_counts<W: Write>(out: &mut W, best: Best) -> io::Result<()> {
+    writeln!(out, "count={}", best.count)?;
+    writeln!(out, "shortest={}", best.shortest)
 }
 
-pub fn put_counted<W: Write>(out: &mut W, file: &[u8], cap: u32) -> bool {
-    let best = calls::best(file, cap);
-    let answer = best.answer;
-    match answer {
-        BestAnswer::Found {
-            variant: _,
-            makespan: _,
-            count,
-            shortest,
-        } => put_counts(out, count, shortest),
-        BestAnswer::Refused(r) => put_refused(out, r),
+pub fn put_counted<W: Write>(out: &mut W, file: &[u8], cap: u32) -> io::Result<()> {
+    match calls::best(file, cap) {
+        Ok(best) => put_counts(out, best),
+        Err(refusal) => put_refused(out, refusal),
     }
 }
 
-pub fn put_listed<W: Write>(out: &mut W, file: &[u8], cap: u32, area: &mut [u32]) -> bool {
-    match calls::list(file, cap, area) {
-        ListAnswer::Listed(rows) => match read::read(file) {
-            ReadAnswer::Read {
-                acts,
-                nodes: _,
-                variants: _,
-            } => rows::put_rows(out, rows as usize, acts as usize + 1, area),
-            ReadAnswer::Refused(r) => put_refused(out, r),
-        },
-        ListAnswer::Refused(r) => put_refused(out, r),
+// The rows of a listing: how many they are, and the cells of each.
+struct Listing {
+    rows: usize,
+    width: usize,
+}
+
+fn list(file: &[u8], cap: u32, area: &mut [u32]) -> Result<Listing, Refusal>
+    ensures fits { IfOk result (λ l. l.rows * l.width ≤ length area.new) }
+    ensures wide { IfOk result (λ l. 0 < l.width) }
+{
+    let rows = calls::list(file, cap, area)?;
+    let counts = read::read(file)?;
+    Ok(Listing {
+        rows: rows as usize,
+        width: counts.acts + 1,
+    })
+}
+
+pub fn put_listed<W: Write>(
+    out: &mut W,
+    file: &[u8],
+    cap: u32,
+    area: &mut [u32],
+) -> io::Result<()> {
+    match list(file, cap, area) {
+        Ok(Listing { rows, width }) => rows::put_rows(out, &area[..rows * width], width),
+        Err(refusal) => put_refused(out, refusal),
     }
 }
 
-pub fn put_best<W: Write>(out: &mut W, file: &[u8], cap: u32) -> bool {
-    let best = calls::best(file, cap);
-    let answer = best.answer;
-    let timetable = best.timetable;
-    match answer {
-        BestAnswer::Found {
-            variant,
-            makespan,
-            count,
-            shortest,
-        } => console::put_session(out, variant, makespan)
-            && put_counts(out, count, shortest)
-            && console::put_starts(out, timetable),
-        BestAnswer::Refused(r) => put_refused(out, r),
+pub fn put_best<W: Write>(out: &mut W, file: &[u8], cap: u32) -> io::Result<()> {
+    match calls::best(file, cap) {
+        Ok(best) => {
+            console::put_session(out, best)?;
+            put_counts(out, best)?;
+            console::put_starts(out, best.timetable)
+        }
+        Err(refusal) => put_refused(out, refusal),
     }
 }

@@ -5,7 +5,7 @@ use mathlib.Core.Bool.{Bool, true, false, ◌&&◌, and-false, and_assoc}
 use mathlib.Core.List.{List}
 use mathlib.Core.Path.{◌≡◌, sym, ap, ◌∙◌}
 use lib.Dec.{leb, ltb}
-use borrow.Author.Tests.{leb-true, leb-false, lt-ltb, le-ltb, le-leb, lt-leb}
+use borrow.Author.Tests.{lt-ltb, le-ltb, le-leb, lt-leb}
 use Rattle.base.proofs.Bools.{both}
 use Rattle.sets.specs.Sets.{has}
 use Rattle.sets.proofs.Turns.{Gathering, gathered}
@@ -18,17 +18,17 @@ abbrev pub runs : List ℕ → List ℕ → ℕ → ℕ → ℕ → Bool
 runs t w u v k = leb (start_at t w k) v && ltb u (end_at w k)
 
 module _ (t w : List ℕ) (u v : ℕ) (k : ℕ) {end : ℕ} (is : end ≡ end_at w k) where
-  pub runs_yes : u < end → leb end (v + duration_at t k) ≡ true → runs t w u v k ≡ true
+  pub runs_yes : u < end → end ≤ v + duration_at t k → runs t w u v k ≡ true
   runs_yes l y =
       both
-      (le-leb (start_at t w k) v (omega (arith, leb-true end (v + duration_at t k) y)))
+      (le-leb (start_at t w k) v (omega arith))
       (lt-ltb u (end_at w k) (omega arith))
 
   -- It starts later, or has ended.
-  pub runs_later : leb end (v + duration_at t k) ≡ false → runs t w u v k ≡ false
+  pub runs_later : v + duration_at t k < end → runs t w u v k ≡ false
   runs_later n =
       ap (λ (b : Bool). b && ltb u (end_at w k))
-      (lt-leb (start_at t w k) v (omega (arith, leb-false end (v + duration_at t k) n)))
+      (lt-leb (start_at t w k) v (omega arith))
 
   pub runs_ended : end ≤ u → runs t w u v k ≡ false
   runs_ended l =

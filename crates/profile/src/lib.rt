@@ -1,5 +1,5 @@
 // The room among frozen activities.
-#![tactic(auto)]
+#![tactic(auto, using(sets::proofs::Members::lowest_low))]
 
 ghost use Rattle.std.specs.Prelude.{true, false, ◌≡◌, ℕ, ◌^◌, ◌≤◌, ◌<◌, ◌+◌, ◌*◌, max, min, length, get_or, set};
 ghost use Rattle.plan.specs.Limits.{most_resources, latest_possible};
@@ -14,7 +14,7 @@ ghost use Rattle.profile.specs.Work.{work_cells, ReadyColumn};
 
 use instance::{CAPACITY, CLASH, RESOURCES, Table, UNITS};
 use plan::MOST_RESOURCES;
-use sets::{WIDTH, after_lowest, lowest};
+use sets::{WIDTH, activities, after_lowest, lowest};
 
 // More than any end.
 pub const NEVER: u32 = 4294967295;
@@ -31,18 +31,6 @@ pub type Work = [u32; WORK_CELLS];
 
 // The units of an activity are so many cells of the table.
 const ROW: usize = MOST_RESOURCES as usize;
-
-pub fn later(a: u32, b: u32) -> u32
-    ensures { result ≡ max a b }
-{
-    if a < b { b } else { a }
-}
-
-pub fn smaller(a: u32, b: u32) -> u32
-    ensures { result ≡ min a b }
-{
-    if b < a { b } else { a }
-}
 
 // The columns of the working array.
 pub fn end_of(work: &Work, i: usize) -> u32
@@ -92,12 +80,9 @@ pub fn latest(work: &Work, set: u32) -> u32
     requires { set < 2 ^ most }
     ensures { result ≡ latest_of work.now set }
 {
-    let mut last = 0;
-    let mut rest = set;
-    while rest != 0 {
-        let i = lowest(rest);
-        last = later(last, end_of(work, i));
-        rest = after_lowest(rest);
+    let mut last: u32 = 0;
+    for i in activities(set) {
+        last = last.max(end_of(work, i));
     }
     last
 }
@@ -108,11 +93,8 @@ fn least(work: &Work, set: u32) -> u32
     ensures { LeastEnd work.now set result }
 {
     let mut first = end_of(work, lowest(set));
-    let mut rest = after_lowest(set);
-    while rest != 0 {
-        let i = lowest(rest);
-        rest = after_lowest(rest);
-        first = smaller(first, end_of(work, i));
+    for i in activities(after_lowest(set)) {
+        first = first.min(end_of(work, i));
     }
     first
 }
@@ -131,10 +113,7 @@ fn running(table: &Table, work: &Work, set: u32, first: u32, last: u32) -> u32
     ensures { Running table.now work.now set first last result }
 {
     let mut on = 0;
-    let mut rest = set;
-    while rest != 0 {
-        let k = lowest(rest);
-        rest = after_lowest(rest);
+    for k in activities(set) {
         let end = end_of(work, k);
         if first < end && end <= last + table[k] {
             on = sets::union(on, sets::single(k));
@@ -149,10 +128,7 @@ pub fn behind(work: &Work, set: u32, tick: u32) -> u32
     ensures { Behind work.now set tick result }
 {
     let mut found = 0;
-    let mut rest = set;
-    while rest != 0 {
-        let k = lowest(rest);
-        rest = after_lowest(rest);
+    for k in activities(set) {
         if tick < end_of(work, k) {
             found = sets::union(found, sets::single(k));
         }
@@ -173,10 +149,7 @@ fn units_of(table: &Table, set: u32, r: usize) -> u32
     ensures { result ≡ units_of table.now set r }
 {
     let mut units = 0;
-    let mut rest = set;
-    while rest != 0 {
-        let k = lowest(rest);
-        rest = after_lowest(rest);
+    for k in activities(set) {
         units += units_at(table, k, r);
     }
     units
@@ -188,13 +161,11 @@ fn is_left(table: &Table, set: u32, i: usize) -> bool
     ensures { result ≡ is_left table.now set i }
 {
     let resources = table[RESOURCES] as usize;
-    let mut r = 0;
-    while r < resources {
+    for r in 0..resources {
         let own = units_at(table, i, r);
         if own != 0 && table[CAPACITY + r] < units_of(table, set, r) + own {
             return false;
         }
-        r += 1;
     }
     true
 }
@@ -236,10 +207,7 @@ fn crowded(table: &Table, work: &Work, set: u32, i: usize, x: u32) -> u32
     if first != 0 {
         return first;
     }
-    let mut rest = set;
-    while rest != 0 {
-        let k = lowest(rest);
-        rest = after_lowest(rest);
+    for k in activities(set) {
         let start = end_of(work, k) - table[k];
         if x < start {
             let until = full_until(table, work, set, i, start);
@@ -288,7 +256,7 @@ pub fn fit_beside(table: &Table, work: &Work, live: u32, i: usize, x: u32, start
         → NextFit table.now work.now set i x result }
 {
     let mut tick = x;
-    let mut beside = behind(work, live, later(x, start));
+    let mut beside = behind(work, live, x.max(start));
     while !has_left(table, beside, i) {
         tick = opening(table, work, beside, i);
         beside = behind(work, beside, tick);
@@ -303,11 +271,7 @@ pub fn ready_column(work: &Work) -> Column
     ensures { ReadyColumn work.now result }
 {
     let mut column = [0; WIDTH];
-    let mut i = 0;
-    while i < WIDTH {
-        column[i] = work[READY + i];
-        i += 1;
-    }
+    column.copy_from_slice(&work[READY..FREE]);
     column
 }
 
@@ -316,9 +280,5 @@ pub fn put_back(work: &mut Work, column: &Column)
     ensures { Filled work.old ready_from width (λ i x. x ≡ get_or column.now i 0)
         work.new }
 {
-    let mut i = 0;
-    while i < WIDTH {
-        work[READY + i] = column[i];
-        i += 1;
-    }
+    work[READY..FREE].copy_from_slice(column);
 }

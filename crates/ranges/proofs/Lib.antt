@@ -1,4 +1,2 @@
 -- The laws of these tests.
-pub mod Between
-pub mod Nodes
 pub mod Units

@@ -1,12 +1,13 @@
 // Whether the values of a line are in their ranges.
 #![tactic(auto)]
 
-ghost use Rattle.std.specs.Prelude.{◌≤◌, [], ◌∷◌, ◌≡◌, take};
-ghost use Rattle.plan.specs.Limits.{between, most_resources, is_duration, is_unit_count};
+ghost use Rattle.std.specs.Prelude.{[], ◌∷◌, ◌≡◌, ◌≤◌};
+ghost use Rattle.std.specs.Bool.{then_some};
+ghost use Rattle.plan.specs.Limits.{between, most_acts, is_duration, is_unit_count};
 ghost use Rattle.plan.specs.Plan.{activity_of, is_activity, is_within, node_of};
 ghost use Rattle.format.specs.Parse.{is_ranged, is_plural};
 
-use plan::MOST_RESOURCES;
+use plan::Node;
 
 // Limits of the plan file in the type of a line's values.
 const DURATION: u32 = plan::LONGEST_DURATION as u32;
@@ -16,7 +17,7 @@ const CHILDREN: u32 = plan::MOST_CHILDREN as u32;
 pub fn in_range(low: u32, high: u32, n: u32) -> bool
     ensures { result ≡ between low high n }
 {
-    if low <= n { n <= high } else { false }
+    low <= n && n <= high
 }
 
 pub fn is_duration(n: u32) -> bool
@@ -29,11 +30,7 @@ pub fn is_duration(n: u32) -> bool
 pub fn is_activity(resources: u32, resource: u32, duration: u32) -> bool
     ensures { result ≡ is_activity 1 resources (activity_of 1 resources (resource ∷ duration ∷ [])) }
 {
-    if resource < resources {
-        is_duration(duration)
-    } else {
-        false
-    }
+    resource < resources && is_duration(duration)
 }
 
 // A count of units where the edition has them.
@@ -44,20 +41,13 @@ pub fn is_unit_count(n: u32) -> bool
 }
 
 // No count is above its resource's capacity.
-pub fn is_within(
-    capacity: [u8; MOST_RESOURCES],
-    units: [u8; MOST_RESOURCES],
-    resources: usize,
-) -> bool
-    requires { resources ≤ most_resources }
-    ensures { result ≡ is_within (take resources capacity) (take resources units) }
+pub fn is_within(capacities: &[u8], units: &[u8]) -> bool
+    ensures { result ≡ is_within capacities.now units.now }
 {
-    for i in 0..resources {
-        if units[i] > capacity[i] {
-            return false;
-        }
-    }
-    true
+    capacities
+        .iter()
+        .zip(units)
+        .all(|(capacity, count)| count <= capacity)
 }
 
 // A number in its range, a group of one let through.
@@ -71,9 +61,24 @@ pub fn is_ranged(acts: u32, letter: u32, number: u32) -> bool
     }
 }
 
-// No group of one.
-pub fn is_plural(letter: u8, number: u8) -> bool
-    ensures { result ≡ is_plural (node_of letter number) }
+// The node of such a number.
+pub fn node_in_range(acts: u32, letter: u8, number: u32) -> Option<Node>
+    requires { acts ≤ most_acts }
+    ensures { result ≡ then_some (is_ranged acts (node_of letter number)) (node_of letter number) }
 {
-    if letter == b'a' { true } else { number != 1 }
+    if is_ranged(acts, u32::from(letter), number) {
+        Some(Node::of(letter, number as u8))
+    } else {
+        None
+    }
+}
+
+// No group of one.
+pub fn is_plural(node: Node) -> bool
+    ensures { result ≡ is_plural node }
+{
+    match node {
+        Node::Act(_) => true,
+        Node::Seq(children) | Node::Pll(children) | Node::Xor(children) => children != 1,
+    }
 }

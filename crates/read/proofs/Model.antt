@@ -11,7 +11,7 @@ use Rattle.plan.specs.Limits.{most_variants}
 use Rattle.plan.specs.Plan.{Plan, is_plan}
 use Rattle.plan.specs.declared.Refusal.TheVariants.{NotOneTerm, Twice, TooManyVariants}
 use Rattle.format.specs.Parse
-use Rattle.format.specs.Parse.{parse, Result}
+use Rattle.format.specs.Parse.{parse}
 use Rattle.format.proofs.Format.{parse_text}
 use Rattle.term.specs.Term.{Term, term_of}
 use Rattle.term.specs.Variants.{variant_count}
@@ -22,30 +22,32 @@ use Rattle.term.proofs.Counting.{variant_count_count}
 use Rattle.term.proofs.Twice.{twice_clash}
 use Rattle.judge.specs.Judge.{judge, judge_term, judge_variants, judge_result}
 use Rattle.read.specs.Answer.{answer_to, read_of}
-use Rattle.read.specs.declared.ReadAnswer.{ReadAnswer}
-use Rattle.read.specs.declared.ReadAnswer.TheVariants.{Read, Refused}
+use Rattle.read.specs.declared.Counts.{Counts}
+use Rattle.std.specs.Prelude.{Result, Ok, Err}
+use Rattle.plan.specs.declared.Refusal.{Refusal}
 
-abbrev pub read_variants : Plan → Term → Bool → Bool → ReadAnswer
-read_variants p t true over = Refused Twice
-read_variants p t false true = Refused TooManyVariants
-read_variants p t false false = Read (length p.activities) (length p.nodes) (count t)
+abbrev pub read_variants : Plan → Term → Bool → Bool → Result Counts Refusal
+read_variants p t true over = Err Twice
+read_variants p t false true = Err TooManyVariants
+read_variants p t false false =
+    Ok (record { acts = length p.activities; nodes = length p.nodes; variants = count t })
 
-abbrev pub read_term : Plan → Option Term → ReadAnswer
-read_term p none = Refused NotOneTerm
+abbrev pub read_term : Plan → Option Term → Result Counts Refusal
+read_term p none = Err NotOneTerm
 read_term p (some t) = read_variants p t (clash t) (ltb most_variants (count t))
 
-abbrev pub read_result : Result → ReadAnswer
+abbrev pub read_result : Parse.Result → Result Counts Refusal
 read_result (Parse.holds p) = read_term p (term_of p.nodes)
-read_result (Parse.refuses r) = Refused r
+read_result (Parse.refuses r) = Err r
 
-unfoldable pub read_by : List ℕ → ReadAnswer
+unfoldable pub read_by : List ℕ → Result Counts Refusal
 read_by s = read_result (parse s)
 
 variants_same : (p : Plan) (t : Term) (a b : Bool) → variant_count t ≡ count t
     → answer_to (judge_variants p t a b) ≡ read_variants p t a b
 variants_same p t true b e = refl
 variants_same p t false true e = refl
-variants_same p t false false e = ap (λ (n : ℕ). Read (length p.activities) (length p.nodes) n) e
+variants_same p t false false e = ap (λ (n : ℕ). Ok (record { acts = length p.activities; nodes = length p.nodes; variants = n })) e
 
 term_same : (p : Plan) (o : Option Term) → term_of p.nodes ≡ o → is_plan p ≡ true
     → answer_to (judge_term p o) ≡ read_term p o
@@ -55,7 +57,7 @@ term_same p (some t) eo r =
     rw (twice_clash t (plan_full p t r eo), n)
     (variants_same p t (clash t) (ltb most_variants (count t)) n)
 
-result_same : (s : List ℕ) (o : Result) → parse s ≡ o → answer_to (judge_result o) ≡ read_result o
+result_same : (s : List ℕ) (o : Parse.Result) → parse s ≡ o → answer_to (judge_result o) ≡ read_result o
 result_same s (Parse.holds p) e = term_same p (term_of p.nodes) refl (parse_text s p e).0
 result_same s (Parse.refuses r) e = refl
 

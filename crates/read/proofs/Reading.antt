@@ -11,11 +11,11 @@ use Rattle.judge.specs.Campaign.{HoldsPlan}
 use Rattle.judge.proofs.Ranges.{acts_are, nodes_are}
 use Rattle.judge.specs.declared.Campaign.{Campaign}
 use Rattle.read.specs.Answer.{answer_to, read_of}
-use Rattle.read.specs.declared.ReadAnswer.TheVariants.{Read, Refused}
+use Rattle.std.specs.Prelude.{Ok, Err}
 
 pub reads_plan : (s : List ℕ) (c : Campaign) (t : Term) → judge s ≡ Judge.accepts (plan_of c.tables) t
     → HoldsPlan c t
-    → Read c.tables.acts c.tables.nodes c.variants ≡ read_of s
+    → Ok (record { acts = c.tables.acts; nodes = c.tables.nodes; variants = c.variants }) ≡ read_of s
 unfolding read_of
 reads_plan s c t e h =
     let n = acts_are c.tables h.ranged in
@@ -24,6 +24,6 @@ reads_plan s c t e h =
     let a = ap answer_to e in
     cc
 
-pub reads_refusal : (s : List ℕ) (r : Refusal) → judge s ≡ Judge.refuses r → Refused r ≡ read_of s
+pub reads_refusal : (s : List ℕ) (r : Refusal) → judge s ≡ Judge.refuses r → Err r ≡ read_of s
 unfolding read_of
 reads_refusal s r e = sym (ap answer_to e)

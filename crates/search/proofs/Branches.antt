@@ -1,5 +1,5 @@
 -- The branches at a stop: what the loop over them keeps, and what each is given and gives.
-use Prim.Native.Nat.{ℕ, suc, ◌+◌, ◌-◌, ◌^◌, ◌≤◌, ◌<◌, max}
+use Prim.Native.Nat.{ℕ, suc, ◌+◌, ◌-◌, ◌^◌, ◌<◌, max}
 use native.Mathlib.Decide.{ℕ_discrete, dec_lt}
 use native.Mathlib.Omega.{arith}
 use mathlib.Core.Bool.{Bool, true, false, not, cond, ◌&&◌}
@@ -7,15 +7,15 @@ use mathlib.Core.List.{List}
 use mathlib.Core.Logic.{◌≢◌, by_cases}
 use mathlib.Core.Path.{◌≡◌, refl, sym, ap, ◌∙◌}
 use lib.Dec.{ltb, eqb}
-use lib.ListN.{length, get_or, set}
+use lib.ListN.{get_or, set}
 use lib.Seq.{get_or-set_same, get_or-set_other}
 use borrow.Author.Tests.{ltb-true, lt-ltb, eq-eqb, not-true}
 use Rattle.base.proofs.Bools.{by_bool, true_not_false, both, and_left, and_right, cond_true, cond_false}
 use Rattle.sets.specs.Sets.{most, has, size, width}
-use Rattle.sets.specs.Lowest.{lowest_of}
+use Rattle.sets.specs.Lowest.{lowest_of, after_lowest}
 use Rattle.sets.proofs.Laws.{has_some, has_without, size_without}
 use Rattle.sets.proofs.Members.{lowest_is, lowest_has, two_left}
-use Rattle.sets.proofs.Turns.{Turn, turn_has}
+use Rattle.sets.proofs.Turns.{Turn, turned, turn_has}
 use Rattle.timetable.specs.Mark.{mark}
 use Rattle.scan.specs.Scan.{Diagram}
 use Rattle.scan.specs.Scan.{select}
@@ -41,7 +41,7 @@ use Rattle.completion.specs.Rest.{Uncontested}
 use Rattle.completion.proofs.Readied.{timed_set}
 use Rattle.ordering.proofs.Lone.{max_with}
 use Rattle.search.specs.Choice.{Choosing, Spreading, Takes, Spreads}
-use Rattle.ordering.proofs.Branches.{seen_none, seen_more}
+use Rattle.ordering.proofs.Branches.{seen_none, seen_more, lowest_least}
 use Rattle.search.specs.Branch.{Contest}
 use Rattle.search.proofs.Rivals.{placed_acts, placed_tight, placed_roomy}
 use Rattle.search.proofs.Rivals.{tight_early, tight_free, roomy_soon}
@@ -62,7 +62,6 @@ beside_itself t l w timed =
 pub record Turning (t b : List ℕ) (r : Reached) (k : Kept) (w₀ w cells area : List ℕ) (rest : ℕ) : Type 0 where
   pub tally : IsTally cells
   pub beside : Beside t r.line w₀ w
-  pub area_kept : length area ≡ length k.area
   pub inside : rest < 2 ^ most
   pub within : (j : ℕ) → has rest j ≡ true → has r.rivals j ≡ true
   pub seen : (d : Diagram) → Position t r.line w₀ d → Going t b d r.rivals k cells area rest
@@ -197,7 +196,6 @@ module _ {t : List ℕ} (given : Instance t) {r : Reached} {w₀ : List ℕ} (co
       record {
         tally = tally;
         beside = beside_itself t l w₀ at₀.sets.timed;
-        area_kept = refl;
         inside = rivals_low;
         within = λ j y. y;
         seen =
@@ -446,18 +444,17 @@ module _ {t : List ℕ} (given : Instance t) {r : Reached} {w₀ : List ℕ} (co
     pub turning_next : (b : List ℕ) {k : Kept} {w w₁ w₂ w₃ cells cells' area area' : List ℕ} {rest rest' : ℕ}
         {next : Line}
         → Turning t b r k w₀ w cells area rest
-        → Turn rest rest' j
-        → ((i : ℕ) → has rest i ≡ true → j ≤ i)
+        → (0 < rest) × (j ≡ lowest_of rest) × (rest' ≡ after_lowest rest)
         → ((d : Diagram) → Position t r.line w₀ d → Position t next w₁ (select (project_in t) (own_of t) d j))
         → Explored t b next (kept_of cells area) w₁ w₂ cells' area'
         → Beside t r.line w₀ w₃
-        → length area' ≡ length area
         → Turning t b r k w₀ w₃ cells' area' rest'
-    turning_next b {k} so_far turn first position done beside same =
+    turning_next b {k} {rest = rest} {rest' = rest'} so_far (more, at, next) position done beside =
+        let turn : Turn rest rest' j = turned rest rest' j so_far.inside (omega (arith, more)) at next in
+        let first = lowest_least rest j so_far.inside (omega (arith, more)) at in
         record {
           tally = done.tally;
           beside = beside;
-          area_kept = same ∙ so_far.area_kept;
           inside = turn.low;
           within = λ i y. so_far.within i (turn_has turn i y);
           seen =

@@ -20,12 +20,12 @@ use Rattle.instance.specs.Instance.{Laid}
 use Rattle.instance.specs.Table.{acts_of, duration_at, component_at}
 use Rattle.profile.specs.Work.{end_at, start_at, free_from, ready_at}
 use Rattle.profile.specs.Room.{Behind}
-use Rattle.steps.specs.Steps.{Sets, Lives, Last, Shifts, frozen_in, running_in, finish_at, selected_line}
+use Rattle.steps.specs.Steps.{Sets, Lives, Last, frozen_in, running_in, finish_at, selected_line}
 use Rattle.steps.specs.declared.Line.{Line}
 use Rattle.steps.proofs.Sets.{frozen_of, loose_is, running_of, running_is}
 use Rattle.completion.proofs.Completed.{member_below}
 use Rattle.completion.proofs.Readied.{timed_set}
-use Rattle.search.specs.Choice.{InConflict, Choosing, Settles, Takes, Spreads}
+use Rattle.search.specs.Choice.{InConflict, Choosing, Settles, Takes}
 
 -- The line with what has been passed and what is live.
 abbrev pub spread_line : Line → ℕ → ℕ → Line
@@ -247,19 +247,6 @@ module _ {t w : List ℕ} {l : Line} {c j : ℕ} (given : Choosing t w l c j) wh
 
       lives_then : Lives t (set w j (finish_at t w j)) l.live j live
       lives_then = subst (λ (x : List ℕ). Lives t x l.live j live) settles.stored lives
-
-      pub spreads_so : {w' : List ℕ} {passed : ℕ} → Shifts t (spread_line r r.passed live) j w₁ w' passed
-          → Spreads t l c j w w' (spread_line r passed live)
-      spreads_so {w'} {passed} shifts =
-          record {
-            passed = passed;
-            live = live;
-            line = ap (λ (x : Line). spread_line x passed live) settles.line;
-            lives = lives_then;
-            shifts =
-                subst (λ (x : List ℕ). Shifts t after j x w' passed) settles.stored
-                (subst (λ (x : Line). Shifts t x j w₁ w' passed) line_is shifts);
-          }
 
       pub shift_given : ((x : ℕ) → Lives t (set w j (finish_at t w j)) l.live j x
           → Last t (set w j (finish_at t w j)) (selected_line l j (l.due - 2 ^ c) l.passed x) j)

@@ -23,10 +23,10 @@ use crowding::crowding;
 use instance::{COMPONENT, PRESENT, TIGHT, Table};
 use ordering::{is_over, order};
 use profile::{
-    WORK_CELLS, Work, behind, end_of, free_of, later, put_back, ready_column, ready_of, store_end,
+    WORK_CELLS, Work, behind, end_of, free_of, put_back, ready_column, ready_of, store_end,
     store_free,
 };
-use sets::{after_lowest, lowest};
+use sets::{activities, lowest};
 use steps::{Line, shift, soon_of};
 use tally::Cells;
 use unbranched::{Reached, advance};
@@ -37,10 +37,7 @@ fn in_conflict(work: &Work, line: Line, set: u32) -> u32
     ensures { InConflict work.now line set result }
 {
     let mut found = 0;
-    let mut rest = sets::minus(set, line.passed);
-    while rest != 0 {
-        let j = lowest(rest);
-        rest = after_lowest(rest);
+    for j in activities(sets::minus(set, line.passed)) {
         if ready_of(work, j) < line.tick {
             found = sets::union(found, sets::single(j));
         }
@@ -119,12 +116,9 @@ fn resolve(
     let c = lowest(stop.line.due);
     let free = free_of(work, c);
     let many = stop.many - 1;
-    let mut rest = stop.rivals;
-    while rest != 0 {
-        let j = lowest(rest);
-        rest = after_lowest(rest);
+    for j in activities(stop.rivals) {
         let next = take(table, work, stop.line, c, j);
-        let last = later(stop.latest, end_of(work, j));
+        let last = stop.latest.max(end_of(work, j));
         if many == 0 {
             complete(table, next, last, work, cells, book, area);
         } else {
@@ -153,12 +147,9 @@ fn part(
     let c = lowest(stop.line.due);
     let saved = ready_column(work);
     let many = stop.many - 1;
-    let mut rest = stop.rivals;
-    while rest != 0 {
-        let j = lowest(rest);
-        rest = after_lowest(rest);
+    for j in activities(stop.rivals) {
         let next = spread(table, work, stop.line, c, j);
-        let last = later(stop.latest, end_of(work, j));
+        let last = stop.latest.max(end_of(work, j));
         descend(table, next, last, many, work, cells, book, area);
         put_back(work, &saved);
     }

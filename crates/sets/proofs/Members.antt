@@ -152,6 +152,10 @@ fold_members m step whole yes-at no-at (suc n) =
 pub lowest_below : (m i : ℕ) → m < 2 ^ most → m ≢ 0 → i ≡ lowest_of m → i < most
 lowest_below m i h ne e = omega (arith, (lowest_is m h ne).inside)
 
+-- The same of the lowest member of what a loop has left, as its bounds goals ask.
+pub lowest_low : (m : ℕ) → 0 < m → m < 2 ^ most → lowest_of m < most
+lowest_low m some h = lowest_below m (lowest_of m) h (omega arith) refl
+
 pub after_less : (m : ℕ) → m < 2 ^ most → m ≢ 0 → after_lowest m < m
 after_less m h ne = omega (arith, (lowest_is m h ne).others, pow_pos (lowest_of m))
 

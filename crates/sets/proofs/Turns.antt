@@ -6,6 +6,7 @@ use native.Mathlib.Omega.{arith}
 use mathlib.Core.Bool.{Bool, true, false, not, ◌&&◌, ◌||◌, and-false, and-true, or-true, or-false}
 use mathlib.Core.Logic.{◌≢◌, by_cases}
 use mathlib.Core.Path.{◌≡◌, refl, sym, ap, ap₂, ◌∙◌, subst}
+use Rattle.std.specs.Prelude.{Some, None}
 use lib.Bits.{bit_or, or_lt}
 use lib.Dec.{eqb}
 use lib.Pow.{pow-lt}
@@ -15,6 +16,8 @@ use Rattle.sets.proofs.Laws.{has_none, has_with, has_without}
 use Rattle.sets.proofs.Members.{lowest_is, lowest_has, lowest_below, after_less}
 use Rattle.sets.specs.Sets.{most, has}
 use Rattle.sets.specs.Lowest.{lowest_of, after_lowest}
+use Rattle.sets.specs.Each.{TakesLowest}
+use Rattle.sets.specs.declared.Iter.{Iter}
 
 -- The member i is taken off the set m, and m' is left.
 pub record Turn (m m' i : ℕ) : Type 0 where
@@ -148,3 +151,12 @@ module _ (fits : ℕ → Bool) (set : ℕ) where
       sym (or-false (has all j))
       ∙ sym (ap (λ (b : Bool). has all j || (b && fits j)) (ap (λ (x : ℕ). has x j) none ∙ has_none j))
       ∙ so_far.found j
+
+-- ---- a `for` over the members of a set
+
+-- A call of `next` that gives a member takes it off what is left.
+pub taken : {s t : Iter} {i : ℕ} → s.left < 2 ^ most → TakesLowest s (Some i) t → Turn s.left t.left i
+taken {s} {t} {i} h step = turned s.left t.left i h (omega (arith, step.0)) step.1 step.2
+
+pub none_left : {s t : Iter} → TakesLowest s None t → s.left ≡ 0
+none_left step = step.0

@@ -5,6 +5,8 @@ ghost use Rattle.std.specs.Prelude.{◌≡◌, ◌-◌, ◌^◌, ◌<◌, true};
 ghost use Rattle.std.specs.Int.Bits.{bit_and, bit_or, bit_xor};
 ghost use Rattle.sets.specs.Sets.{most, has, meet};
 ghost use Rattle.sets.specs.Lowest.{lowest_of, after_lowest};
+ghost use Rattle.sets.specs.Each.{TakesLowest};
+ghost use Rattle.std.specs.Iterator.{at_most};
 
 // The bits of a word. What is kept for each member has a place for each of them, so that any bit is an index.
 pub const WIDTH: usize = 32;
@@ -76,4 +78,33 @@ pub fn after_lowest(set: u32) -> u32
     ensures { result ≡ after_lowest set }
 {
     set & (set - 1)
+}
+
+// The activities of a set one by one, the lowest first.
+#[derive(Clone, Drop)]
+pub struct Iter {
+    left: u32,
+}
+
+pub fn activities(set: u32) -> Iter
+    ensures { result.left ≡ set }
+{
+    Iter { left: set }
+}
+
+impl Iterator for Iter {
+    type Item = usize;
+
+    ghost next_gives = { TakesLowest };
+
+    ghost remaining = { λ s. at_most s.left };
+
+    fn next(&mut self) -> Option<usize> {
+        if self.left == 0 {
+            return None;
+        }
+        let i = lowest(self.left);
+        self.left = after_lowest(self.left);
+        Some(i)
+    }
 }

@@ -3,7 +3,7 @@
 use Prim.Native.Nat.{ℕ, ◌+◌, ◌≤◌, ◌<◌}
 use native.Mathlib.Decide.{dec_lt}
 use native.Mathlib.Omega.{arith}
-use mathlib.Core.Bool.{true, false}
+use mathlib.Core.Bool.{false}
 use mathlib.Core.List.{List}
 use mathlib.Core.Logic.{by_cases}
 use mathlib.Core.Path.{◌≡◌, refl}
@@ -27,20 +27,6 @@ pub record Waits (t w : List ℕ) (before j x : ℕ) : Type 0 where
   pub low : x ≤ latest_possible
 
 module _ (t w : List ℕ) (before j x : ℕ) where
-  pub waits_none : Timed w → x ≡ latest_of w before → x + duration_at t j ≤ end_at w j → Waits t w before j x
-  waits_none timed e h =
-      record {
-        from = omega arith;
-        fair = omega arith;
-        none = λ u a b. absurd (omega arith);
-        low = omega (arith, latest_early w before timed);
-      }
-
-  -- j would start before the others have ended.
-  pub soonest_never : x ≡ latest_of w before → end_at w j < x + duration_at t j → IsSoonest t w before j false
-  soonest_never e h =
-      record { holds = λ y. true_not_false y refl; fails = λ z s. omega (arith, s.ready) }
-
   module _ (so_far : Waits t w before j x) where
     module _ (r : ℕ) (blocked : Blocked t w (others_of t j) j x r) where
       pub waits_more : Timed w → (r ≡ 0 → ⊥) → Waits t w before j r
@@ -61,10 +47,3 @@ module _ (t w : List ℕ) (before j x : ℕ) where
             holds = λ y. true_not_false y refl;
             fails = λ n s. s.none x so_far.from h (blocked.fits z);
           }
-
-    pub soonest_is : end_at w j ≤ x + duration_at t j → IsSoonest t w before j true
-    soonest_is h =
-        record {
-          holds = λ y. record { ready = so_far.fair; none = λ u a b. so_far.none u a (omega arith) };
-          fails = λ z. true_not_false refl z;
-        }

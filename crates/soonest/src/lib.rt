@@ -1,5 +1,5 @@
 // Whether a schedule is active under another order of its activities: each of them starts as soon as it fits.
-#![tactic(auto)]
+#![tactic(auto, using(sets::proofs::Members::lowest_low))]
 
 ghost use Rattle.std.specs.Prelude.{true, ◌≡◌, ℕ, ◌^◌, ◌≤◌, ◌<◌, length, get_or};
 ghost use Rattle.sets.specs.Sets.{most, has};
@@ -11,7 +11,7 @@ ghost use Rattle.soonest.specs.Soonest.{others_of, IsSoonest, Misplaced};
 use instance::{COMPONENT, PRESENT, Table};
 use plan::MOST_ACTS;
 use profile::{Work, blocked, end_of, latest};
-use sets::{after_lowest, lowest};
+use sets::activities;
 
 // The present activities of the component of j, without j.
 fn others_of(table: &Table, j: usize) -> u32
@@ -50,10 +50,7 @@ pub fn misplaced(table: &Table, work: &Work, set: u32, order: &[u32]) -> usize
         × (most ≤ length order.now) × ((j : ℕ) → j < most → get_or order.now j 0 < 2 ^ most) }
     ensures { Misplaced table.now work.now set (λ j. get_or order.now j 0) result }
 {
-    let mut rest = set;
-    while rest != 0 {
-        let j = lowest(rest);
-        rest = after_lowest(rest);
+    for j in activities(set) {
         if !is_soonest(table, work, order[j], j) {
             return j;
         }

@@ -192,14 +192,8 @@ module _ (w w' : List ℕ) (i x : ℕ) (timed : Timed w) (below : i < most) (wro
 
 -- ---- what can start is made ready
 
--- The two cases of being free.
+-- An activity that is not tight is free where it has room.
 module _ (t w : List ℕ) (l : Line) (i : ℕ) {tight : Bool} (is : tight ≡ has (tight_of t) i) where
-  pub free_tight : {x : ℕ} → tight ≡ true → x ≡ free_at w (own_at t i) → leb x l.tick ≡ is_free t w l i
-  free_tight y e =
-      ap (λ (x : ℕ). leb x l.tick) e
-      ∙ sym (cond_true (leb (free_at w (own_at t i)) l.tick)
-      (has_room_at t w (bit_and (running_in l) (component_at t i)) i l.tick) (sym is ∙ y))
-
   pub free_roomy : {all : ℕ} {r : Bool} → tight ≡ false → all ≡ bit_and (running_in l) (component_at t i)
       → Sets t w l
       → Runs t w l

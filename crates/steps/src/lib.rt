@@ -15,10 +15,8 @@ ghost use Rattle.steps.specs.declared.Line.{Line};
 ghost use Rattle.steps.specs.declared.Stop.{Stop};
 
 use instance::{COMPONENT, PREDS, TIGHT, Table};
-use profile::{
-    NEVER, Work, end_of, fit_beside, free_of, has_left, later, ready_of, smaller, store_ready,
-};
-use sets::{after_lowest, lowest};
+use profile::{NEVER, Work, end_of, fit_beside, free_of, has_left, ready_of, store_ready};
+use sets::{activities, lowest};
 
 // Where the scan stands: the tick of the scan-line, the activities that are placed, those not yet frozen, and T; the
 // contested components that are still to be resolved there; and those placed and not frozen that a frozen one of their
@@ -78,10 +76,11 @@ pub fn soon_of(table: &Table, work: &Work, i: usize) -> u32
 {
     let ready = ready_of(work, i);
     let free = free_of(work, component_of(table, i));
-    later(ready, free)
+    ready.max(free)
 }
 
 // The first of a tick and the ends of a set that is placed and not frozen.
+#[tactic(auto, using(sets::proofs::Members::lowest_low))]
 fn first_stop(table: &Table, work: &Work, set: u32, first: u32) -> Stop
     requires { Laid table.now × Timed work.now × (set < 2 ^ most)
         × ((i : ℕ) → has set i ≡ true → i < acts_of table.now) }
@@ -89,10 +88,7 @@ fn first_stop(table: &Table, work: &Work, set: u32, first: u32) -> Stop
 {
     let mut tick = first;
     let mut due = 0;
-    let mut rest = set;
-    while rest != 0 {
-        let i = lowest(rest);
-        rest = after_lowest(rest);
+    for i in activities(set) {
         let own = sets::single(component_of(table, i));
         let end = soon_of(table, work, i) + table[i];
         if end < tick {
@@ -111,10 +107,11 @@ pub fn move_line(table: &Table, work: &Work, line: Line, first: u32) -> Line
     ensures { Moves table.now work.now line first result }
 {
     let stop = first_stop(table, work, loose(line), first);
-    let mut next = line;
-    next.tick = stop.tick;
-    next.due = stop.due;
-    next
+    Line {
+        tick: stop.tick,
+        due: stop.due,
+        ..line
+    }
 }
 
 // Where nothing waits, a stop on which only frozen activities end changes nothing but T: the scan-line goes to the
@@ -138,6 +135,7 @@ fn is_ahead(a: u32, i: usize, b: u32, j: usize) -> bool
 
 // Step 3: what else is placed and not frozen in the component of j, which was frozen, is shifted to its next fit; those
 // that j has passed.
+#[tactic(auto, using(sets::proofs::Members::lowest_low, crate::proofs::Ready::frozen_below))]
 pub fn shift(table: &Table, work: &mut Work, line: Line, j: usize) -> u32
     requires { Sets table.now work.old line × (has (frozen_in line) j ≡ true)
         × Last table.now work.old line j }
@@ -148,10 +146,7 @@ pub fn shift(table: &Table, work: &mut Work, line: Line, j: usize) -> u32
     let start = end - table[j];
     let live = sets::common(line.live, component);
     let mut passed = sets::minus(line.passed, component);
-    let mut rest = sets::common(loose(line), component);
-    while rest != 0 {
-        let k = lowest(rest);
-        rest = after_lowest(rest);
+    for k in activities(sets::common(loose(line), component)) {
         let from = ready_of(work, k);
         if from < end && start < from + table[k] {
             let next = fit_beside(table, work, live, k, from, start);
@@ -172,6 +167,7 @@ pub struct Expired {
 }
 
 // Step 4: T loses the frozen activities that have ended.
+#[tactic(auto, using(sets::proofs::Members::lowest_low))]
 pub fn expire(work: &Work, line: Line) -> Expired
     requires { line.term < 2 ^ most }
     ensures { Deletes work.now line result.term
@@ -179,15 +175,12 @@ pub fn expire(work: &Work, line: Line) -> Expired
 {
     let mut term = line.term;
     let mut first = NEVER;
-    let mut rest = running(line);
-    while rest != 0 {
-        let i = lowest(rest);
-        rest = after_lowest(rest);
+    for i in activities(running(line)) {
         let end = end_of(work, i);
         if end <= line.tick {
             term = sets::minus(term, sets::single(i));
         } else {
-            first = smaller(first, end);
+            first = first.min(end);
         }
     }
     Expired { term, first }
@@ -207,15 +200,13 @@ fn is_free(table: &Table, work: &Work, line: Line, i: usize) -> bool
 }
 
 // Step 5: what waits, has no predecessor in T and room starts at the scan-line; what is placed then.
+#[tactic(auto, using(sets::proofs::Members::lowest_low))]
 pub fn attach(table: &Table, work: &mut Work, line: Line) -> u32
     requires { Sets table.now work.old line × Runs table.now work.old line × (line.tick ≤ latest_possible) }
     ensures { Attaches table.now line work.old work.new result }
 {
     let mut placed = line.placed;
-    let mut rest = waiting(line);
-    while rest != 0 {
-        let i = lowest(rest);
-        rest = after_lowest(rest);
+    for i in activities(waiting(line)) {
         if !sets::meets(table[PREDS + i], line.term) && is_free(table, work, line, i) {
             store_ready(work, i, line.tick);
             placed = sets::union(placed, sets::single(i));

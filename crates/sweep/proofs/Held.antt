@@ -4,9 +4,7 @@ use native.Mathlib.Omega.{arith}
 use mathlib.Core.Bool.{true}
 use mathlib.Core.List.{List}
 use mathlib.Core.Path.{◌≡◌, refl, sym, ◌∙◌}
-use lib.ListN.{length}
-use Rattle.base.proofs.Bools.{cond_true, cond_false, by_bool}
-use Rattle.plan.specs.Limits.{says_units}
+use lib.ListN.{length, get_or}
 use Rattle.plan.specs.Plan.{Plan, plan_of}
 use Rattle.sets.specs.Sets.{most, has}
 use Rattle.term.specs.Term.{Term}
@@ -14,7 +12,7 @@ use Rattle.term.specs.Valid.{HasVariant}
 use Rattle.term.specs.Variants.{activities, member}
 use Rattle.schedule.proofs.Alike.{Alike}
 use Rattle.variant.specs.Precedence.{precedes}
-use Rattle.variant.specs.Project.{variant_at, project_of}
+use Rattle.variant.specs.Project.{activity_at, units_at, variant_at, project_of}
 use Rattle.variant.specs.Tables.{OrderOf}
 use Rattle.variant.proofs.Instance.{capacity_between, duration_at_lem, units_at_lem, has_of}
 use Rattle.variant.proofs.Order.{precedes_members}
@@ -22,7 +20,7 @@ use Rattle.variant.proofs.RoundTrip.{variant_below}
 use Rattle.variant.proofs.Tables.{resources_are, capacity_in, duration_in, units_in}
 use Rattle.plan_exact.proofs.Variant.{ranked}
 use Rattle.branching.proofs.Rank.{before}
-use Rattle.instance.specs.Instance.{Given, Chosen}
+use Rattle.instance.specs.Instance.{no_row, row_of, Given, Chosen}
 use Rattle.instance.specs.Table.{present_of, project_in}
 use Rattle.orders.specs.Book.{under_order}
 use Rattle.judge.specs.Campaign.{HoldsPlan}
@@ -38,45 +36,31 @@ module _ (c : Campaign) (t : Term) (h : HoldsPlan c t) where
   acts = acts_are c.tables h.ranged
 
   resources : length p.capacities ≡ c.tables.resources
-  resources = resources_are c.tables h.ranged.sized h.ranged.resources
+  resources = resources_are c.tables h.ranged.sized.capacity
 
-  pub given :
-      Given c.tables.acts c.tables.resources c.tables.duration c.tables.units c.tables.capacity
+  duration_is : (i : ℕ) → i < c.tables.acts → (activity_at p i).duration ≡ (row_of c.tables i).duration
+  duration_is i l = duration_in c.tables h.ranged.sized.activity i l no_row
+
+  units_are : (i r : ℕ) → i < c.tables.acts → r < c.tables.resources
+      → units_at p i r ≡ get_or (row_of c.tables i).units r 0
+  units_are i r l = units_in c.tables h.ranged.sized.activity i l no_row r
+
+  pub given : Given c.tables
   given =
-      let sized = h.ranged.sized in
       let ranges = h.valid.ranges in
       record {
-        acts_few = omega (arith, h.ranged.acts);
-        resources_few = h.ranged.resources;
-        long =
-            λ i l.
-            omega (
-              arith,
-              duration_in c.tables sized h.ranged.acts i l,
-              (duration_at_lem p ranges i (omega (arith, acts))).0,
-            );
-        short =
-            λ i l.
-            omega (
-              arith,
-              duration_in c.tables sized h.ranged.acts i l,
-              (duration_at_lem p ranges i (omega (arith, acts))).1,
-            );
+        long = λ i l. omega (arith, duration_is i l, (duration_at_lem p ranges i (omega (arith, acts))).0);
+        short = λ i l. omega (arith, duration_is i l, (duration_at_lem p ranges i (omega (arith, acts))).1);
         alone =
             λ i r l m.
             omega (
               arith,
-              units_in c.tables sized h.ranged.acts i l r m,
-              capacity_in c.tables sized r m,
+              units_are i r l m,
+              capacity_in c.tables r m,
               units_at_lem p ranges i r (omega (arith, acts)) (omega (arith, resources)),
             );
-        capacities =
-            λ r m.
-            let between = capacity_between p ranges r (omega (arith, resources)) in
-            by_bool
-            (says_units p.edition)
-            (λ y. omega (arith, capacity_in c.tables sized r m, between.1, cond_true {A = ℕ} 15 1 y))
-            (λ z. omega (arith, capacity_in c.tables sized r m, between.1, cond_false {A = ℕ} 15 1 z));
+        capacities = λ r m.
+            grind (arith, capacity_in c.tables r m, (capacity_between p ranges r (omega (arith, resources))).1);
       }
 
   module _ (table : List ℕ) (laid : LaidFor c table) where
@@ -86,8 +70,6 @@ module _ (c : Campaign) (t : Term) (h : HoldsPlan c t) where
         → Alike (under_order (project_in table) order) (project_of p w)
     unfolding project_in project_of
     alike w order members befores =
-        let sized = h.ranged.sized in
-        let few = h.ranged.acts in
         record {
           size = laid.acts_are ∙ sym acts;
           resources = laid.resources_are ∙ sym resources;
@@ -96,7 +78,7 @@ module _ (c : Campaign) (t : Term) (h : HoldsPlan c t) where
           duration =
               λ i l.
               let b : i < c.tables.acts = omega (arith, laid.acts_are) in
-              laid.durations i b ∙ sym (duration_in c.tables sized few i b);
+              laid.durations i b ∙ sym (duration_is i b);
           free = λ i l. refl;
           begun = λ i l. refl;
           precedes = λ i j l m. befores i j (omega (arith, laid.acts_are));
@@ -105,11 +87,11 @@ module _ (c : Campaign) (t : Term) (h : HoldsPlan c t) where
               λ i r l m.
               let b : i < c.tables.acts = omega (arith, laid.acts_are) in
               let d : r < c.tables.resources = omega (arith, laid.resources_are) in
-              laid.held i r b d ∙ sym (units_in c.tables sized few i b r d);
+              laid.held i r b d ∙ sym (units_are i r b d);
           capacity =
               λ r m.
               let d : r < c.tables.resources = omega (arith, laid.resources_are) in
-              laid.capacity_is r d ∙ sym (capacity_in c.tables sized r d);
+              laid.capacity_is r d ∙ sym (capacity_in c.tables r d);
         }
 
     pub chosen_for : (v : ℕ) → HasVariant p t v → (present : ℕ) (preds : List ℕ)

@@ -138,11 +138,7 @@ module _ (c : Campaign) (cap : ℕ) (k₀ : Kept) where
             ∙ sym (run_next acts cap (project_at c t) rows k₀ v);
       }
 
-  -- At the last variant, or sooner where the count is above the cap.
-  pub swept_all : (k : Kept) → SweptTo c.variants k
-      → (t : Term) → HoldsPlan c t → Swept c t cap (variant_count t) k₀ k
-  swept_all k s t h = subst (λ (n : ℕ). Swept c t cap n k₀ k) h.counted (s t h)
-
+  -- Where the loop stops sooner, as the count is above the cap.
   pub swept_over : (v : ℕ) (k : Kept) → v ≤ c.variants → cap < k.tally.count → SweptTo v k
       → (t : Term) → HoldsPlan c t → Swept c t cap (variant_count t) k₀ k
   swept_over v k l over s t h =

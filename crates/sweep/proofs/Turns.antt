@@ -129,9 +129,7 @@ module _ (c : Campaign) (t : Term) (v : ℕ) (h : HoldsVariant c t v) (present :
     module _ (cap : ℕ) (before table : List ℕ) (laid₀ : LaidFor c before)
         (placed : Placed before present preds v cap link table) where
       pub still_laid : LaidFor c table
-      still_laid =
-          laid_from_kept before table placed.kept c.tables.acts c.tables.resources c.tables.duration
-          c.tables.units c.tables.capacity laid₀
+      still_laid = laid_from_kept before table placed.kept c.tables laid₀
 
       near_table : Nearest itself b' (entries_of heads) present (link_of table)
       near_table = subst (Nearest itself b' (entries_of heads) present) (sym placed.link_is) near'

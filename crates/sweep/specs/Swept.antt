@@ -17,8 +17,7 @@ use Rattle.sweep.specs.Booked.{Booked}
 
 -- The table is laid out for the plan.
 abbrev pub LaidFor : Campaign → List ℕ → Type 0
-LaidFor c table =
-    let t = c.tables in LaidFrom t.acts t.resources t.duration t.units t.capacity table
+LaidFor c table = LaidFrom c.tables table
 
 module _ (c : Campaign) (t : Term) where
   abbrev pub project_at : ℕ → Project

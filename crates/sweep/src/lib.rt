@@ -18,7 +18,7 @@ use tally::{COUNT, Cells};
 
 // The schedules of variant v that no lower one has, by the table of the plan.
 fn search_variant(
-    campaign: Campaign,
+    campaign: &Campaign,
     v: u32,
     cap: u32,
     table: &mut Table,
@@ -27,11 +27,11 @@ fn search_variant(
     book: &mut [u32],
     area: &mut [u32],
 )
-    requires { ((t : Term) × HoldsVariant campaign t v × Ready campaign t v heads.old book.old
-        × LaidFor campaign table.old) × IsTally cells.old }
-    ensures laid_for { LaidFor campaign table.new × IsTally cells.new }
-    ensures turned { (t : Term) → HoldsVariant campaign t v → Ready campaign t v heads.old book.old
-        → Turned campaign t cap v (kept_of cells.old area.old)
+    requires { ((t : Term) × HoldsVariant campaign.now t v × Ready campaign.now t v heads.old book.old
+        × LaidFor campaign.now table.old) × IsTally cells.old }
+    ensures laid_for { LaidFor campaign.now table.new × IsTally cells.new }
+    ensures turned { (t : Term) → HoldsVariant campaign.now t v → Ready campaign.now t v heads.old book.old
+        → Turned campaign.now t cap v (kept_of cells.old area.old)
         (kept_of cells.new area.new) heads.new book.new }
 {
     let x = precedence::tabled(campaign, v);
@@ -46,35 +46,29 @@ fn search_variant(
 }
 
 // The table of the plan, with no variant in it yet.
-fn table_of(campaign: Campaign) -> Table
-    requires { (t : Term) × HoldsPlan campaign t }
-    ensures { LaidFor campaign result }
+fn table_of(campaign: &Campaign) -> Table
+    requires { (t : Term) × HoldsPlan campaign.now t }
+    ensures { LaidFor campaign.now result }
 {
-    let tables = campaign.tables;
-    let duration = tables.duration;
-    let units = tables.units;
-    let capacity = tables.capacity;
-    instance::laid(tables.acts, tables.resources, &duration, &units, &capacity)
+    instance::laid(&campaign.tables)
 }
 
 // The same of all variants, with a book that has room for them.
-fn sweep_with(campaign: Campaign, cap: u32, cells: &mut Cells, book: &mut [u32], area: &mut [u32])
-    requires { ((t : Term) × HoldsPlan campaign t × (entry_cells * variant_count t ≤ length book.old))
+fn sweep_with(campaign: &Campaign, cap: u32, cells: &mut Cells, book: &mut [u32], area: &mut [u32])
+    requires { ((t : Term) × HoldsPlan campaign.now t × (entry_cells * variant_count t ≤ length book.old))
         × IsTally cells.old }
     ensures tally { IsTally cells.new }
-    ensures swept { (t : Term) → HoldsPlan campaign t
-        → Swept campaign t cap (variant_count t) (kept_of cells.old area.old)
+    ensures swept { (t : Term) → HoldsPlan campaign.now t
+        → Swept campaign.now t cap (variant_count t) (kept_of cells.old area.old)
         (kept_of cells.new area.new) }
 {
     let mut table = table_of(campaign);
     let mut heads = [0; BUCKETS + 1];
-    let mut v = 0;
-    while v < campaign.variants {
+    for v in 0..campaign.variants {
         if cells[COUNT] > cap as u64 {
             return;
         }
         search_variant(campaign, v, cap, &mut table, &mut heads, cells, book, area);
-        v += 1;
     }
 }
 
@@ -82,11 +76,11 @@ fn sweep_with(campaign: Campaign, cap: u32, cells: &mut Cells, book: &mut [u32],
 const FEW: u32 = 16;
 
 // The schedules of all variants, each once, until there are more than `cap`; the tally is carried on.
-pub fn sweep(campaign: Campaign, cap: u32, cells: &mut Cells, area: &mut [u32])
-    requires { ((t : Term) × HoldsPlan campaign t) × IsTally cells.old }
+pub fn sweep(campaign: &Campaign, cap: u32, cells: &mut Cells, area: &mut [u32])
+    requires { ((t : Term) × HoldsPlan campaign.now t) × IsTally cells.old }
     ensures tally { IsTally cells.new }
-    ensures swept { (t : Term) → HoldsPlan campaign t
-        → Swept campaign t cap (variant_count t) (kept_of cells.old area.old)
+    ensures swept { (t : Term) → HoldsPlan campaign.now t
+        → Swept campaign.now t cap (variant_count t) (kept_of cells.old area.old)
         (kept_of cells.new area.new) }
 {
     if campaign.variants <= FEW {

@@ -1,7 +1,7 @@
 -- The starts of a schedule as the program writes them: one store at a time, as a row in its stretch of the area, and
 -- in the cells of the tally. Its rank beside the one kept, as the program compares them.
 use Prim.Native.Nat.{ℕ, suc, ◌+◌, ◌-◌, ◌*◌, ◌≤◌, ◌<◌}
-use native.Mathlib.Nat.{not-suc-le-zero, le_antisymm, le_trans, le_of_lt, mul-le-mul_left, mul-le-mul_right}
+use native.Mathlib.Nat.{not-suc-le-zero, le_antisymm}
 use native.Mathlib.Decide.{ℕ_discrete, dec_lt}
 use native.Mathlib.Numerals.{add-one, one-add}
 use native.Mathlib.Omega.{arith}
@@ -51,11 +51,6 @@ start_below end d h =
 module _ (t w : List ℕ) (whole : Instance t) (ended : Ended t w) where
   abbrev few : acts_of t ≤ places
   few = whole.laid.acts
-
-  -- What has ended has run its duration.
-  pub ended_ran : (i : ℕ) → i < places → (end_at w i ≡ 0 → ⊥) → duration_at t i ≤ end_at w i
-  ended_ran i l ne =
-      by_bool (has (present_of t) i) (λ y. ended.ran i y) (λ z. absurd (ne (ended.idle i l z)))
 
   start_present : (i : ℕ) → has (present_of t) i ≡ true → start_of (end_at w i) (duration_at t i) ≡ start_at t w i
   unfolding start_of
@@ -190,12 +185,6 @@ row_placed_lem area row part at n h e back =
     drop_of_length-le (drop at area) {i = length area - at} (omega (arith, length-drop at area)) in
     placed_fits area row (part ++ drop (length area - at) (drop at area)) at (omega arith)
     (ap (part ++◌) none ∙ append-nil part ∙ back ∙ ap₂ (λ (k : ℕ) (xs : List ℕ). row ++ drop k xs) (sym e) whole)
-
--- Where the next row starts.
-pub next_at_lem : (count acts : ℕ) → count < word_values → acts ≤ places → count * (acts + 1) ≤ word_values * (places + 1)
-next_at_lem count acts h l =
-    let few : acts + 1 ≤ places + 1 = omega arith in
-    le_trans (mul-le-mul_right (acts + 1) (le_of_lt h)) (mul-le-mul_left (word_values) few)
 
 -- ---- the tally
 
@@ -365,10 +354,10 @@ module _ (cells : List ℕ) (t : IsTally cells) where
   counted_more : get_or (more cells) count_cell 0 ≡ get_or cells count_cell 0 + 1
   counted_more = get_or-set_same cells count_cell (get_or cells count_cell 0 + 1) 0 (omega (arith, t.size))
 
-  pub ties_there : get_or (more cells) ties_cell 0 ≡ get_or cells ties_cell 0
+  ties_there : get_or (more cells) ties_cell 0 ≡ get_or cells ties_cell 0
   ties_there = get_or-set_other cells count_cell ties_cell (get_or cells count_cell 0 + 1) 0 (λ e. omega arith)
 
-  pub more_tally : IsTally (more cells)
+  more_tally : IsTally (more cells)
   more_tally =
       front_set cells count_cell (get_or cells count_cell 0 + 1) (omega arith) t
       (omega (arith, counted_more, ties_there, t.few))

@@ -77,10 +77,8 @@ fn write_row(row: &mut [u32], table: &Table, work: &Work)
 {
     let acts = table[ACTS] as usize;
     row[0] = table[VARIANT];
-    let mut i = 0;
-    while i < acts {
+    for i in 0..acts {
         row[1 + i] = start_of(work[i], table[i]);
-        i += 1;
     }
 }
 
@@ -105,10 +103,8 @@ fn keep(table: &Table, work: &Work, cells: &mut Cells)
     ensures cells_after { cells.new
         ≡ take starts_from cells.old ++ timetable_of (row_in table.now work.now) }
 {
-    let mut i = 0;
-    while i < MOST_ACTS {
+    for i in 0..MOST_ACTS {
         cells[STARTS + i] = start_of(work[i], table[i]) as u64;
-        i += 1;
     }
 }
 
@@ -119,13 +115,11 @@ fn starts_before(table: &Table, work: &Work, cells: &Cells) -> bool
         ≡ is_before (timetable_of (row_in table.now work.now))
         (drop starts_from cells.now) }
 {
-    let mut i = 0;
-    while i < MOST_ACTS {
+    for i in 0..MOST_ACTS {
         let start = start_of(work[i], table[i]) as u64;
         if start != cells[STARTS + i] {
             return start < cells[STARTS + i];
         }
-        i += 1;
     }
     false
 }
@@ -222,10 +216,8 @@ pub fn tally_of(cells: &Cells) -> Tally
     ensures { result ≡ tally_of cells.now }
 {
     let mut best = Timetable::empty();
-    let mut i = 0;
-    while i < MOST_ACTS {
+    for i in 0..MOST_ACTS {
         best.starts[i] = cells[STARTS + i] as u32;
-        i += 1;
     }
     Tally {
         count: cells[COUNT],

@@ -12,9 +12,10 @@ use lib.ListN.{length}
 use borrow.Author.Tests.{leb-true, le-leb}
 use Rattle.plan.specs.Limits.{most_children, is_edition, is_resource_count, is_capacity, is_act_count, is_node_count}
 use Rattle.plan.specs.Limits.{is_child_count}
-use Rattle.plan.specs.Plan.{Node, Plan, letter_of, is_activity, is_within, is_node, is_plan}
+use Rattle.plan.specs.Plan.{Plan, letter_of, is_activity, is_within, is_node, is_plan}
+use Rattle.plan.specs.declared.Node.{Node}
 use Rattle.base.specs.Lists.{every}
-use Rattle.plan.specs.Plan
+use Rattle.plan.specs.declared.Node.TheVariants.{Act, Seq, Pll, Xor}
 use Rattle.term.specs.Term.{Term, Forest, act, seq, pll, xor, nil, cons, size, nodes, nodes_of_all, firsts}
 use Rattle.term.specs.Term.{others, group, place, forest, single, term_of, full, full_all, plural}
 use Rattle.term.specs.Model.{NoTerm, NoForest, children_of}
@@ -139,10 +140,10 @@ group_placed make n written k f g e =
 
 placed : (n : Node) (f g : Forest) → place n f ≡ some g → nodes_of_all g ≡ n ∷ nodes_of_all f
 unfolding place nodes
-placed (Plan.activity i) f g e = ap nodes_of_all (some-injective g (cons (act i) f) (sym e))
-placed (Plan.seq k) f g e = group_placed seq Plan.seq (λ h. refl) k f g e
-placed (Plan.pll k) f g e = group_placed pll Plan.pll (λ h. refl) k f g e
-placed (Plan.xor k) f g e = group_placed xor Plan.xor (λ h. refl) k f g e
+placed (Act i) f g e = ap nodes_of_all (some-injective g (cons (act i) f) (sym e))
+placed (Seq k) f g e = group_placed seq Seq (λ h. refl) k f g e
+placed (Pll k) f g e = group_placed pll Pll (λ h. refl) k f g e
+placed (Xor k) f g e = group_placed xor Xor (λ h. refl) k f g e
 
 pub nodes_forest : (ns : List Node) (f : Forest) → forest ns ≡ some f → nodes_of_all f ≡ ns
 unfolding forest nodes

@@ -1,8 +1,8 @@
 -- How the program goes over nodes and terms: V by sums and products, and nodes that begin with no term. It need not
 -- be believed: V is proved to be `variant_count`.
 use Rattle.std.specs.Prelude.{ℕ, ◌+◌, ◌*◌, List, ◌++◌, ◌≡◌}
-use Rattle.plan.specs.Plan.{Node}
-use Rattle.plan.specs.Plan
+use Rattle.plan.specs.declared.Node.{Node}
+use Rattle.plan.specs.declared.Node.TheVariants.{Act, Seq, Pll, Xor}
 use Rattle.term.specs.Term.{Term, Forest, act, seq, pll, xor, nil, cons, size, nodes, nodes_of_all}
 
 unfoldable mutual
@@ -22,10 +22,10 @@ unfoldable mutual
 
 -- A node is followed by as many terms as it says.
 abbrev pub children_of : Node → ℕ
-children_of (Plan.activity i) = 0
-children_of (Plan.seq k) = k
-children_of (Plan.pll k) = k
-children_of (Plan.xor k) = k
+children_of (Act i) = 0
+children_of (Seq k) = k
+children_of (Pll k) = k
+children_of (Xor k) = k
 
 -- What a reader from left to right finds. No term, or no forest of that size, begins the nodes:
 abbrev pub NoTerm : List Node → Type 0

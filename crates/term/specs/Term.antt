@@ -2,8 +2,8 @@
 use Rattle.std.specs.Prelude.{ℕ, zero, suc, Bool, true, false, ◌&&◌, List, [], ◌∷◌, ◌++◌, leb}
 use Rattle.std.proofs.Math.Option.{Option, none, some}
 use Rattle.plan.specs.Limits.{fewest_children}
-use Rattle.plan.specs.Plan.{Node}
-use Rattle.plan.specs.Plan
+use Rattle.plan.specs.declared.Node.{Node}
+use Rattle.plan.specs.declared.Node.TheVariants.{Act, Seq, Pll, Xor}
 
 mutual
   pub data Term : Type 0 where
@@ -37,10 +37,10 @@ unfoldable mutual
 -- The nodes of a term: a group's node says how many children follow.
 unfoldable mutual
   pub nodes : Term → List Node
-  nodes (act i) = Plan.activity i ∷ []
-  nodes (seq f) = Plan.seq (size f) ∷ nodes_of_all f
-  nodes (pll f) = Plan.pll (size f) ∷ nodes_of_all f
-  nodes (xor f) = Plan.xor (size f) ∷ nodes_of_all f
+  nodes (act i) = Act i ∷ []
+  nodes (seq f) = Seq (size f) ∷ nodes_of_all f
+  nodes (pll f) = Pll (size f) ∷ nodes_of_all f
+  nodes (xor f) = Xor (size f) ∷ nodes_of_all f
 
   pub nodes_of_all : Forest → List Node
   nodes_of_all nil = []
@@ -61,10 +61,10 @@ abbrev pub group : (Forest → Term) → ℕ → Forest → Option Forest
 group make k f = elim (leb k (size f)) [ true ↦ some (cons (make (firsts k f)) (others k f)) | false ↦ none ]
 
 unfoldable pub place : Node → Forest → Option Forest
-place (Plan.activity i) f = some (cons (act i) f)
-place (Plan.seq k) f = group seq k f
-place (Plan.pll k) f = group pll k f
-place (Plan.xor k) f = group xor k f
+place (Act i) f = some (cons (act i) f)
+place (Seq k) f = group seq k f
+place (Pll k) f = group pll k f
+place (Xor k) f = group xor k f
 
 unfoldable pub forest : List Node → Option Forest
 forest [] = some nil

@@ -1,10 +1,11 @@
 -- The mask of a term has its activities, so that masks meet where terms share one.
 use Prim.Native.Nat.{ℕ, zero, suc, ◌<◌, ◌^◌}
-use mathlib.Core.Path.{◌≡◌, refl, sym, ap₂, ◌∙◌}
-use mathlib.Core.Bool.{Bool, true, false, ◌||◌, or-false}
+use mathlib.Core.Path.{◌≡◌, sym, ap₂, ◌∙◌}
+use mathlib.Core.Bool.{true, ◌||◌, or-false}
 use native.Mathlib.Nat.{pow-suc}
 use native.Mathlib.Omega.{arith}
 use lib.Dec.{lit<, eqb}
+use Rattle.base.proofs.Bools.{same_bool}
 use Rattle.sets.specs.Sets.{has, meet}
 use Rattle.sets.proofs.Laws.{has_none, has_or, has_single, meet_at, meet_of}
 use Rattle.term.specs.Term.{Term, Forest, act, seq, pll, xor, nil, cons}
@@ -13,11 +14,6 @@ use Rattle.term.specs.Clash.{share}
 use Rattle.term.proofs.SomeOf.{some_found, some_is}
 use Rattle.term.proofs.Twice.{member_append, member_found, member_is}
 use Rattle.term_reader.specs.Walk.{mask, mask_all}
-
-iff_eq : (a b : Bool) → (a ≡ true → b ≡ true) → (b ≡ true → a ≡ true) → a ≡ b
-iff_eq true b f g = sym (f refl)
-iff_eq false true f g = g refl
-iff_eq false false f g = refl
 
 mutual
   unfolding mask activities member
@@ -41,7 +37,7 @@ below_power (suc n) = omega (arith, below_power n, pow-suc 2 n)
 
 pub meet_share : (t : Term) (f : Forest) → meet (mask t) (mask_all f) ≡ share (activities t) (activities_of_all f)
 unfolding share
-meet_share t f = iff_eq (meet (mask t) (mask_all f)) (share (activities t) (activities_of_all f)) shared met
+meet_share t f = same_bool (meet (mask t) (mask_all f)) (share (activities t) (activities_of_all f)) shared met
   where
     shared : meet (mask t) (mask_all f) ≡ true → share (activities t) (activities_of_all f) ≡ true
     shared e =

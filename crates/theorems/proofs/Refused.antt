@@ -23,15 +23,10 @@ use Rattle.inspect.specs.Answer.{check_by, check_of}
 use Rattle.answers.specs.Listed.{cells_needed, list_within, list_by, list_of}
 use Rattle.answers.specs.Shortest.{best_within, best_by, best_of}
 use Rattle.answers.specs.declared.Best.{Best}
-use Rattle.answers.specs.declared.ListAnswer.{ListAnswer}
-use Rattle.write.specs.declared.WriteAnswer.{WriteAnswer}
+use Rattle.std.specs.Prelude.{Result}
 use Rattle.vialbluff.specs.Cells.{refusal_cells, read_cells, write_cells, check_cells, list_cells, best_cells, starts_kept}
 use Rattle.vialbluff.specs.Cells.{WriteLeaves, ListLeaves, BestLeaves}
 use Rattle.theorems.specs.TurnedBack.{IsRefusal, LeavesArea, TurnedBack, Untouched}
-
--- What BEST leaves of the lent starts.
-abbrev kept : Best → List ℕ → List ℕ
-kept best before = starts_kept best.answer best.timetable.starts before
 
 module _ (s : List ℕ) (r : Refusal) (e : judge s ≡ refuses r) where
   wrote : (v : ℕ) (before after out : List ℕ) → WriteLeaves s v before after out
@@ -57,8 +52,8 @@ module _ (s : List ℕ) (r : Refusal) (e : judge s ≡ refuses r) where
   unfolding best_of
   found cap before after out w =
       record {
-        cells = w.cells ∙ ap (λ (o : Verdict). best_cells (best_by o cap).answer) e;
-        area = w.starts ∙ ap (λ (o : Verdict). kept (best_by o cap) before) e;
+        cells = w.cells ∙ ap (λ (o : Verdict). best_cells (best_by o cap)) e;
+        area = w.starts ∙ ap (λ (o : Verdict). starts_kept (best_by o cap) before) e;
       }
 
   pub turned_back : TurnedBack s r
@@ -83,7 +78,7 @@ module _ (s : List ℕ) (unfit : (p : Plan) (t : Term) → Valid p t → s ≡ t
 
 -- An area is changed only where the answer's first cell is 0.
 module _ (v : ℕ) (before : List ℕ) where
-  abbrev Stays : Outcome WriteAnswer → Type 0
+  abbrev Stays : Outcome (Result ℕ Refusal) → Type 0
   Stays o = IsRefusal (write_cells o.answer) → o.area ≡ before
 
   stays_placed : (fits : Bool) (bytes : List ℕ) → Stays (placed_by fits bytes before)
@@ -100,7 +95,7 @@ module _ (v : ℕ) (before : List ℕ) where
   stays_write (refuses r) h = refl
 
 module _ (cap : ℕ) (before : List ℕ) where
-  abbrev StaysListed : Outcome ListAnswer → Type 0
+  abbrev StaysListed : Outcome (Result ℕ Refusal) → Type 0
   StaysListed o = IsRefusal (list_cells o.answer) → o.area ≡ before
 
   stays_pairs : (p : Plan) (t : Term) (capped fits : Bool) → StaysListed (list_within capped fits p t before)
@@ -113,8 +108,8 @@ module _ (cap : ℕ) (before : List ℕ) where
       stays_pairs p t (leb (pair_count p t) cap) (leb (cells_needed p t) (length before)) h
   stays_list (refuses r) h = refl
 
-  abbrev StaysKept : Best → Type 0
-  StaysKept best = IsRefusal (best_cells best.answer) → kept best before ≡ before
+  abbrev StaysKept : Result Best Refusal → Type 0
+  StaysKept best = IsRefusal (best_cells best) → starts_kept best before ≡ before
 
   stays_found : (p : Plan) (t : Term) (capped : Bool) → StaysKept (best_within capped p t)
   stays_found p t true h = absurd (h refl)

@@ -22,7 +22,8 @@ use Rattle.variant.specs.Timetable.{timetable_of}
 use Rattle.variant.specs.Words.{Keeps, Makespan}
 use Rattle.variant.proofs.Words.{variant_inside, keeps_means, session_means}
 use Rattle.judge.specs.Judge.{accepts}
-use Rattle.answers.specs.Shortest.{makespan_in, row_starts, first_shortest, best_row, no_best, best_within, best_by}
+use Rattle.std.specs.Prelude.{Ok, Err}
+use Rattle.answers.specs.Shortest.{makespan_in, row_starts, first_shortest, best_row, best_within, best_by}
 use Rattle.plan_exact.proofs.Meaning.{makespan_words, pairs_listing, best_first}
 use Rattle.plan_exact.proofs.Pairs.{pair_is, pair_checks, pair_span}
 use Rattle.plan_exact.proofs.Shortest.{First, first_shortest_lem, first_active, first_least, first_chains, first_loads}
@@ -126,8 +127,8 @@ module _ (p : Plan) (t : Term) (valid : Valid p t) where
       let r = (best_first p t valid).one_of in
       (r.variant, r.starts, r.whole, subst (First p t) r.whole (first_shortest_lem p t valid))
 
-  pub over : (cap : ℕ) → cap < pair_count p t → best_by (accepts p t) cap ≡ no_best OverCap
+  pub over : (cap : ℕ) → cap < pair_count p t → best_by (accepts p t) cap ≡ Err OverCap
   over cap l = ap (λ (b : Bool). best_within b p t) (lt-leb (pair_count p t) cap l)
 
-  pub within : (cap : ℕ) → pair_count p t ≤ cap → best_by (accepts p t) cap ≡ best_row p t (first_shortest p t)
+  pub within : (cap : ℕ) → pair_count p t ≤ cap → best_by (accepts p t) cap ≡ Ok (best_row p t (first_shortest p t))
   within cap l = ap (λ (b : Bool). best_within b p t) (le-leb (pair_count p t) cap l)

@@ -11,7 +11,8 @@ use mathlib.Core.Option.{some}
 use lib.ListN.{length, take}
 use Rattle.base.specs.Lists.{every}
 use Rattle.plan.specs.Limits.{longest_of, longest, is_edition}
-use Rattle.plan.specs.Plan.{Plan, Node, is_node}
+use Rattle.plan.specs.Plan.{Plan, is_node}
+use Rattle.plan.specs.declared.Node.{Node}
 use Rattle.plan.specs.declared.Refusal.{Refusal}
 use Rattle.plan.specs.declared.Refusal.TheVariants.{NotOneTerm, Twice, TooManyVariants, OverCap}
 use Rattle.format.specs.Text.{text}
@@ -19,7 +20,7 @@ use Rattle.format.proofs.Longest.{longest_plan}
 use Rattle.timetable.specs.Mark.{mark}
 use Rattle.schedule.specs.Bounds.{load_of}
 use Rattle.schedule.specs.Schedule.{Starts}
-use Rattle.schedule.specs.Sessions.{starts_of, sessions}
+use Rattle.schedule.specs.Sessions.{sessions}
 use Rattle.term.specs.Term.{Term, full, term_of}
 use Rattle.term.specs.Valid.{Valid, HasVariant}
 use Rattle.term.specs.Variants.{variants, variant_count, activities, twice}
@@ -45,19 +46,17 @@ use Rattle.judge.proofs.Accepts.{accepted_valid, valid_accepted, accepted_short,
 use Rattle.read.specs.Answer.{read_of}
 use Rattle.write.specs.Answer.{write_of}
 use Rattle.write.specs.RoundTrip.{RoundTrip}
-use Rattle.write.specs.declared.WriteAnswer.TheVariants.{Written}
 use Rattle.write.proofs.RoundTrip.{round_trip}
 use Rattle.inspect.specs.Answer.{check_of}
 use Rattle.inspect.specs.Words.{SessionOf}
-use Rattle.inspect.specs.declared.CheckAnswer.TheVariants.{Checked}
+use Rattle.std.specs.Prelude.{Result, Ok, Err}
 use Rattle.inspect.proofs.Meaning.{check_yes}
 use Rattle.answers.specs.Listed.{list_of}
-use Rattle.answers.specs.Shortest.{makespan_in, row_variant, row_span, shortest_count, first_shortest, best_row, best_by}
+use Rattle.answers.specs.Shortest.{makespan_in, row_variant, row_span, first_shortest, best_row, best_by}
 use Rattle.answers.specs.Shortest.{best_of}
 use Rattle.answers.specs.Words.{Listing, ListingOf, FirstShortest, ShortestRows}
 use Rattle.answers.specs.declared.Best.{Best}
-use Rattle.answers.specs.declared.BestAnswer.TheVariants.{Found, Refused}
-use Rattle.answers.specs.declared.ListAnswer.TheVariants.{Listed}
+use Rattle.plan.specs.declared.Refusal.{Refusal}
 use Rattle.plan_exact.proofs.Found.{variant_scan}
 use Rattle.plan_exact.proofs.Meaning.{makespan_words, active_unmarked, list_listing, pairs_listing, best_first}
 use Rattle.plan_exact.proofs.Meaning.{best_shortest}
@@ -91,9 +90,9 @@ demand_1 s = (unfit_turned_back s, untouched s)
 -- leaves are accepted as the variant.
 pub demand_2 : (s : List ℕ) (p : Plan) (t : Term) → judge s ≡ accepts p t
     → ((w : Term) → Memᴰ w (variants t) ↔ Reduced t w)
-    × ((cap n : ℕ) (before after : List ℕ) → list_of s cap before ≡ record { answer = Listed n; area = after }
+    × ((cap n : ℕ) (before after : List ℕ) → list_of s cap before ≡ record { answer = Ok n; area = after }
     → ListingOf s n before after)
-    × ((v n : ℕ) (area after : List ℕ) → write_of s v area ≡ record { answer = Written n; area = after }
+    × ((v n : ℕ) (area after : List ℕ) → write_of s v area ≡ record { answer = Ok n; area = after }
     → RoundTrip s v (take n after))
 demand_2 s p t accepted = (
   variants_reduced t,
@@ -117,41 +116,33 @@ listing_union = pairs_listing
 pub demand_3 : (s : List ℕ) (p : Plan) (t : Term) → judge s ≡ accepts p t
     → (n : ℕ) → ActiveSessions p t n
     → (cap : ℕ)
-    → (((best_of s cap).answer ≡ Refused OverCap) ↔ (cap < n))
+    → ((best_of s cap ≡ Err OverCap) ↔ (cap < n))
     × (n ≤ cap
-    → (v span m : ℕ) × ((best_of s cap).answer ≡ Found v span n m)
-    × ShortestSession p t v span (best_of s cap).timetable.starts
-    × ShortestRows p t m)
+    → (b : Best) × (best_of s cap ≡ Ok b) × (b.count ≡ n)
+    × ShortestSession p t b.variant b.makespan b.timetable.starts
+    × ShortestRows p t b.shortest)
 unfolding best_of
 demand_3 s p t accepted n active cap =
     let valid : Valid p t = (accepted_valid s p t accepted).0 in
     let count : n ≡ pair_count p t = active_count p t valid n active in
     let is = ap (λ (o : Verdict). best_by o cap) accepted in
     let (v, ss, row, first) = row_first p t valid in
-    let found : n ≤ cap → best_by (judge s) cap ≡ best_row p t (v ∷ ss) =
-    λ l. is ∙ within p t valid cap (omega arith) ∙ ap (best_row p t) row in (
+    let found : n ≤ cap → best_by (judge s) cap ≡ Ok (best_row p t (v ∷ ss)) =
+    λ l. is ∙ within p t valid cap (omega arith) ∙ ap (λ (r : List ℕ). Ok (best_row p t r)) row in (
       (
-        λ refused.
-            by_cases
-            (dec_le n cap)
-            (λ l. absurd (never (sym (ap (λ (b : Best). b.answer) (found l)) ∙ refused)))
-            (λ g. omega arith),
-        λ l. ap (λ (b : Best). b.answer) (is ∙ over p t valid cap (omega arith)),
+        λ refused. by_cases (dec_le n cap) (λ l. absurd (never (sym (found l) ∙ refused))) (λ g. omega arith),
+        λ l. is ∙ over p t valid cap (omega arith),
       ),
       λ l. (
-        v,
-        makespan_in p t v (starts_of ss),
-        shortest_count p t,
-        ap (λ (b : Best). b.answer) (found l)
-            ∙ ap (λ (k : ℕ). Found v (makespan_in p t v (starts_of ss)) k (shortest_count p t)) (sym count),
-        subst (ShortestSession p t v (makespan_in p t v (starts_of ss)))
-            (sym (ap (λ (b : Best). b.timetable.starts) (found l)))
-            (shortest_words p t valid v ss first),
+        best_row p t (v ∷ ss),
+        found l,
+        sym count,
+        shortest_words p t valid v ss first,
         best_shortest p t valid,
       ),
     )
   where
-    never : {v span k m : ℕ} → Found v span k m ≡ Refused OverCap → ⊥
+    never : {b : Best} → ◌≡◌ {A = Result Best Refusal} (Ok b) (Err OverCap) → ⊥
     never e = let z : ◌≡◌ {A = ℕ} 0 1 = cc in omega arith
 
 -- There is such a number n: that of the rows of the listing.
@@ -172,7 +163,7 @@ unmarked = active_unmarked
 -- least the chains and loads of its variant, and at most the sum of its durations.
 pub first_shortest_row : (s : List ℕ) (p : Plan) (t : Term) → judge s ≡ accepts p t
     → (cap : ℕ) → pair_count p t ≤ cap
-    → (row : List ℕ) × (best_of s cap ≡ best_row p t row) × FirstShortest p t row
+    → (row : List ℕ) × (best_of s cap ≡ Ok (best_row p t row)) × FirstShortest p t row
     × Between p t (row_variant row) (row_span p t row)
 unfolding best_of
 first_shortest_row s p t accepted cap l =
@@ -249,7 +240,7 @@ unfit_terms s = (not_whole s, has_twice s, has_too_many s)
 
 -- CHECK says yes exactly to a timetable that is a feasible session of the variant.
 pub check_sessions : (s : List ℕ) (v : ℕ) (timetable : List ℕ)
-    → (check_of s v timetable ≡ Checked true) ↔ SessionOf s v timetable
+    → (check_of s v timetable ≡ Ok true) ↔ SessionOf s v timetable
 check_sessions = check_yes
 
 -- It says yes to every session that is listed.

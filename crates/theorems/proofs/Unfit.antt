@@ -18,7 +18,7 @@ use Rattle.format.specs.Parse
 use Rattle.format.specs.Parse.{parse, Result}
 use Rattle.format.proofs.Early.{parse_early}
 use Rattle.format.proofs.Format.{text_parses, parse_text}
-use Rattle.term.specs.Term.{Term, nodes, term_of}
+use Rattle.term.specs.Term.{Term, term_of}
 use Rattle.term.specs.Variants.{variant_count, twice}
 use Rattle.term.proofs.Reading.{term_of_nodes, nodes_term_of, none_if}
 use Rattle.term.proofs.Twice.{twice_means}

@@ -31,7 +31,7 @@ use Rattle.steps.specs.declared.Line.{Line}
 use Rattle.steps.proofs.Loops.{common_low}
 use Rattle.steps.proofs.Sets.{frozen_of, frozen_is, loose_is}
 use Rattle.unbranched.specs.Position.{Position, Beside, is_running_on, running_on, Leads, Onward}
-use Rattle.unbranched.specs.Advance.{frozen_line, both_in, here_in, Advances}
+use Rattle.unbranched.specs.Advance.{frozen_line, both_in, here_in}
 use Rattle.unbranched.proofs.Onward.{beside_itself}
 use Rattle.unbranched.proofs.Alone.{direct_one, own_c, acts_c, here_of, here_is, alone_leads}
 
@@ -129,24 +129,6 @@ advancing t l w last many last_is many_is start =
       several = λ k. absurd (omega (arith, k));
       leads = leads_itself t l w;
       some = start;
-    }
-
--- At the end.
-pub advanced : (t : List ℕ) (l : Line) (w w' : List ℕ) (line : Line) (last many rivals : ℕ)
-    → Advancing t l w w' line last many rivals
-    → (rivals ≡ 0 → many ≡ 0)
-    → Advances t l w w' record { line = line; latest = last; many = many; rivals = rivals }
-advanced t l w w' line last many rivals so_far settled =
-    record {
-      beside = so_far.beside;
-      fewer = so_far.fewer;
-      more = so_far.more;
-      many = so_far.many_is;
-      settled = settled;
-      last = so_far.last_is;
-      here = so_far.here;
-      several = so_far.several;
-      leads = so_far.leads;
     }
 
 module _ {t : List ℕ} {l : Line} {w w' : List ℕ} {line : Line} {last many rivals : ℕ} (given : Instance t)

@@ -15,7 +15,7 @@ ghost use Rattle.unbranched.specs.Advance.{frozen_line, Advances};
 
 use crowding::fewer;
 use instance::{COMPONENT, Table};
-use profile::{Work, later, store_end};
+use profile::{Work, store_end};
 use sets::{after_lowest, lowest};
 use steps::{Line, attach, expire, jump, move_line, waiting};
 
@@ -30,11 +30,12 @@ fn move_on(table: &Table, work: &mut Work, line: Line) -> Line
         return jump(table, work, line);
     }
     let expired = expire(work, line);
-    let mut next = line;
-    next.term = expired.term;
-    let placed = attach(table, work, next);
-    next.placed = placed;
-    move_line(table, work, next, expired.first)
+    let deleted = Line {
+        term: expired.term,
+        ..line
+    };
+    let placed = attach(table, work, deleted);
+    move_line(table, work, Line { placed, ..deleted }, expired.first)
 }
 
 // Step 3, where an activity is alone in its component: it is frozen where it stands, and ends on the scan-line.
@@ -43,12 +44,13 @@ fn freeze(work: &mut Work, line: Line, i: usize, component: usize) -> Line
     ensures { (result ≡ frozen_line line i component)
         × (work.new ≡ set work.old i line.tick) }
 {
-    let mut next = line;
-    next.left = sets::without(line.left, i);
-    next.due = sets::without(line.due, component);
-    next.live = sets::union(line.live, sets::single(i));
     store_end(work, i, line.tick);
-    next
+    Line {
+        left: sets::without(line.left, i),
+        due: sets::without(line.due, component),
+        live: sets::union(line.live, sets::single(i)),
+        ..line
+    }
 }
 
 // Where the moves without a branch have led: the line, the latest frozen end, how many activities are left that may yet
@@ -68,15 +70,7 @@ pub fn advance(table: &Table, work: &mut Work, from: Line, latest: u32, contests
         × ((d : Diagram) × Position table.now from work.old d) }
     ensures { Advances table.now from work.old work.new result }
 {
-    let mut line = Line {
-        tick: from.tick,
-        placed: from.placed,
-        left: from.left,
-        term: from.term,
-        due: from.due,
-        passed: from.passed,
-        live: from.live,
-    };
+    let mut line = from;
     let mut last = latest;
     let mut many = contests;
     let mut rivals = 0;
@@ -89,7 +83,7 @@ pub fn advance(table: &Table, work: &mut Work, from: Line, latest: u32, contests
             let here = sets::common(both, line.placed);
             if after_lowest(here) == 0 && !sets::meets(here, line.passed) {
                 line = freeze(work, line, lowest(here), c);
-                last = later(last, line.tick);
+                last = last.max(line.tick);
                 many -= fewer(table, here, both);
             } else {
                 rivals = here;

@@ -9,7 +9,7 @@ use native.Mathlib.Omega.{arith}
 use borrow.Author.Tests.{leb-true, le-leb}
 use lib.ListN.{length, get_or, length-append}
 use Rattle.plan.specs.Limits.{fewest_children}
-use Rattle.plan.specs.Plan.{Node}
+use Rattle.plan.specs.declared.Node.{Node}
 use Rattle.base.proofs.Bools.{both}
 use Rattle.term.specs.Term.{Term, Forest, act, seq, pll, xor, nil, cons, size, nodes, nodes_of_all, full, full_all}
 use Rattle.term.specs.Term.{plural}

@@ -25,11 +25,10 @@ use Rattle.variant.proofs.RoundTrip.{same_project, written_again, reads_dissolve
 use Rattle.variant.proofs.RoundTrip.{variant_count_lem, variant_only}
 use Rattle.judge.specs.Judge.{Verdict, accepts, refuses, judge}
 use Rattle.judge.proofs.Accepts.{accepted_valid, valid_accepted}
-use Rattle.write.specs.declared.WriteAnswer.{WriteAnswer}
 use Rattle.write.specs.Answer.{placed_by, write_variant, write_by, write_of}
 use Rattle.write.specs.RoundTrip.{RoundTrip}
 use Rattle.write.specs.Steps.{placed_in}
-use Rattle.write.specs.declared.WriteAnswer.TheVariants.{Written, Refused}
+use Rattle.std.specs.Prelude.{Result, Ok, Err}
 
 -- Variant v of a term with its nested groups dissolved, the plan of it, and the bytes that it is written out as.
 abbrev pub term_back : Term → ℕ → Term
@@ -107,27 +106,27 @@ module _ (s : List ℕ) (p : Plan) (t : Term) (v : ℕ) (e : judge s ≡ accepts
       rw (written_accepted, lt-ltb 0 (variant_count (term_back t v)) one, bytes_again) (sym (writes area))
 
 -- The same said of WRITE's outcome alone.
-refused_not_written : {A : Type 0} {r : Refusal} {n : ℕ} → Refused r ≡ Written n → A
+refused_not_written : {A : Type 0} {r : Refusal} {n : ℕ} → ◌≡◌ {A = Result ℕ Refusal} (Err r) (Ok n) → A
 refused_not_written e = absurd (let z : ◌≡◌ {A = ℕ} 0 1 = cc in omega arith)
 
-same_size : {m n : ℕ} → Written m ≡ Written n → m ≡ n
+same_size : {m n : ℕ} → ◌≡◌ {A = Result ℕ Refusal} (Ok m) (Ok n) → m ≡ n
 same_size e = cc
 
 module _ (s : List ℕ) (v : ℕ) (area : List ℕ) (n : ℕ) (after : List ℕ) where
-  abbrev Left : Outcome WriteAnswer → Type 0
-  Left o = o ≡ record { answer = Written n; area = after }
+  abbrev Left : Outcome (Result ℕ Refusal) → Type 0
+  Left o = o ≡ record { answer = Ok n; area = after }
 
   bytes_placed : (fits : Bool) (bytes : List ℕ) → Left (placed_by fits bytes area) → bytes ≡ take n after
   bytes_placed true bytes h =
-      let size = same_size (ap (λ (o : Outcome WriteAnswer). o.answer) h) in
-      sym (take_at bytes (drop (length bytes) area) n size) ∙ ap (λ (o : Outcome WriteAnswer). take n o.area) h
-  bytes_placed false bytes h = refused_not_written (ap (λ (o : Outcome WriteAnswer). o.answer) h)
+      let size = same_size (ap (λ (o : Outcome (Result ℕ Refusal)). o.answer) h) in
+      sym (take_at bytes (drop (length bytes) area) n size) ∙ ap (λ (o : Outcome (Result ℕ Refusal)). take n o.area) h
+  bytes_placed false bytes h = refused_not_written (ap (λ (o : Outcome (Result ℕ Refusal)). o.answer) h)
 
   variant_written :
       (b : Bool) (p : Plan) (t : Term) → ltb v (variant_count t) ≡ b → judge s ≡ accepts p t → Left
       (write_variant b p t v area)
       → RoundTrip s v (take n after)
-  variant_written false p t eb e h = refused_not_written (ap (λ (o : Outcome WriteAnswer). o.answer) h)
+  variant_written false p t eb e h = refused_not_written (ap (λ (o : Outcome (Result ℕ Refusal)). o.answer) h)
   variant_written true p t eb e h =
       let l = ltb-true v (variant_count t) eb in
       subst (RoundTrip s v) (bytes_placed (leb (length (bytes_of p t v)) (length area)) (bytes_of p t v) h) (record {
@@ -150,8 +149,8 @@ module _ (s : List ℕ) (v : ℕ) (area : List ℕ) (n : ℕ) (after : List ℕ)
 
   verdict_written : (o : Verdict) → judge s ≡ o → Left (write_by o v area) → RoundTrip s v (take n after)
   verdict_written (accepts p t) e h = variant_written (ltb v (variant_count t)) p t refl e h
-  verdict_written (refuses r) e h = refused_not_written (ap (λ (o : Outcome WriteAnswer). o.answer) h)
+  verdict_written (refuses r) e h = refused_not_written (ap (λ (o : Outcome (Result ℕ Refusal)). o.answer) h)
 
-  pub round_trip : write_of s v area ≡ record { answer = Written n; area = after } → RoundTrip s v (take n after)
+  pub round_trip : write_of s v area ≡ record { answer = Ok n; area = after } → RoundTrip s v (take n after)
   unfolding write_of
   round_trip h = verdict_written (judge s) refl h

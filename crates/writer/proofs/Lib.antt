@@ -2,5 +2,4 @@
 pub mod Laws
 pub mod Lines
 pub mod Pieces
-pub mod Nodes
 pub mod Text

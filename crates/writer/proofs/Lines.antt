@@ -1,36 +1,38 @@
--- Pieces of text one behind the other, one a turn.
+-- Lines one behind the other, one a turn.
 use Prim.Native.Nat.{ℕ, ◌+◌, ◌*◌, ◌≤◌, ◌<◌}
-use mathlib.Core.List.{List, [], ◌++◌}
-use mathlib.Core.Path.{◌≡◌, refl, ap, ◌∙◌}
+use mathlib.Core.List.{List}
+use mathlib.Core.Path.{◌≡◌, ap}
 use native.Mathlib.Nat.{mul-suc}
 use native.Mathlib.Numerals.{add-one}
 use native.Mathlib.Omega.{arith}
-use lib.ListN.{length}
+use lib.ListN.{length, get_or, drop, drop_of_length-le}
+use lib.Seq.{drop-cons}
+use Rattle.format.proofs.Readers.{Joined}
 use Rattle.writer.specs.Wrote.{Wrote}
 use Rattle.writer.proofs.Laws.{wrote_none, wrote_then}
 
--- After i of n pieces, none longer than `wide`, the text `rest i` is left: whatever writes it has written all.
-pub record Left (wide n : ℕ) (rest : ℕ → List ℕ) (area₀ : List ℕ) (at : ℕ) (area : List ℕ) (next i : ℕ) : Type 0 where
-  pub count : i ≤ n
+-- After the first i of xs, no line longer than `wide`: whatever writes the lines of the others has written all.
+pub record Left {A : Type 0} (wide : ℕ) (writes : List A → List ℕ) (xs : List A) (area₀ : List ℕ) (at : ℕ)
+    (area : List ℕ) (next i : ℕ) : Type 0 where
   pub near : next ≤ at + wide * i
-  pub same : length area ≡ length area₀
-  pub write : (end : ℕ) (last : List ℕ) → Wrote area next (rest i) end last → Wrote area₀ at (rest 0) end last
+  pub write : (end : ℕ) (last : List ℕ) → Wrote area next (writes (drop i xs)) end last
+      → Wrote area₀ at (writes xs) end last
 
--- No piece yet, one more, and no more.
-pub left_all : {wide n : ℕ} {rest : ℕ → List ℕ} {area : List ℕ} {at : ℕ} → Left wide n rest area at area at 0
-left_all = record { count = omega arith; near = omega arith; same = refl; write = λ end last w. w }
+-- One more line, and no more.
+module _ {A : Type 0} {wide : ℕ} {line : A → List ℕ} {writes : List A → List ℕ} {xs : List A} {area₀ area : List ℕ}
+    {at next i : ℕ} (joined : Joined line writes) (left : Left wide writes xs area₀ at area next i)
+  where
+    pub left_then : (x d : A) {after : List ℕ} {end : ℕ} → i < length xs → x ≡ get_or xs i d → length (line x) ≤ wide
+        → Wrote area next (line x) end after
+        → Left wide writes xs area₀ at after end (i + 1)
+    left_then x d h e short w =
+        record {
+          near = omega (arith, left.near, w.place, mul-suc wide i, ap (λ (k : ℕ). wide * k) (add-one i));
+          write =
+              λ end last v.
+              left.write end last
+              (rw (drop-cons xs i d h, joined.cons, ← e) (wrote_then w (rw add-one at v)));
+        }
 
-module _ {wide n : ℕ} {rest : ℕ → List ℕ} {area₀ area : List ℕ} {at next i : ℕ}
-    (left : Left wide n rest area₀ at area next i) where
-  pub left_then : {after piece : List ℕ} {end : ℕ} → i < n → rest i ≡ piece ++ rest (i + 1) → length piece ≤ wide
-      → length after ≡ length area → Wrote area next piece end after → Left wide n rest area₀ at after end (i + 1)
-  left_then h e short same w =
-      record {
-        count = omega arith;
-        near = omega (arith, left.near, w.place, mul-suc wide i, ap (λ (k : ℕ). wide * k) (add-one i));
-        same = same ∙ left.same;
-        write = λ end last v. left.write end last (rw e (wrote_then w v));
-      }
-
-  pub left_none : rest i ≡ [] → Wrote area₀ at (rest 0) next area
-  left_none e = left.write next area (rw e (wrote_none area next))
+    pub left_none : length xs ≤ i → Wrote area₀ at (writes xs) next area
+    left_none h = left.write next area (rw (drop_of_length-le xs h, joined.nil) (wrote_none area next))

@@ -1,45 +1,36 @@
-use native.Mathlib.Omega.{arith}
 use mathlib.Core.Path.{sym, ◌∙◌}
-use Rattle.arguments.proofs.Words.{walked_none, walked_room, walked_more, walked_stop, walked_end}
+use native.Mathlib.Omega.{arith}
+use Rattle.arguments.proofs.Words.{walked_none, walked_more, walked_stop, walked_over, walked_end}
 use Rattle.arguments.proofs.value_of.Goals as goal
 
-pub loop-i-init : goal.loop-i-init
-loop-i-init c = walked_none c.args.word.now
+pub loop-b-init : goal.loop-b-init
+loop-b-init c = walked_none c.args.word.now
 
-pub returns-then-not-is_digit : goal.returns-then-not-is_digit
-returns-then-not-is_digit c =
-    let w = c.args.word.now in
-    let loop = c.loop-i in
-    walked_stop w loop.i loop.value loop.invariant (omega arith)
-    (sym c.is_digit.ensures ∙ c.if-not-is_digit.true)
+pub returns-in_err-d : goal.returns-in_err-d
+returns-in_err-d c =
+    c.from_residual.ensures
+    ∙ walked_stop c.loop-b.invariant c.loop-b-test.true (sym c.digit.ensures ∙ c.in_err-d.was)
 
-pub overflow_mul-value : goal.overflow_mul-value
-overflow_mul-value c =
-    let w = c.args.word.now in
-    let loop = c.loop-i in
-    omega (arith, walked_room w loop.i loop.value loop.invariant (omega arith))
+pub returns-in_err-checked_mul : goal.returns-in_err-checked_mul
+returns-in_err-checked_mul c =
+    let large = c.in_err-checked_mul.ensures in
+    c.from_residual-in_err-checked_mul.ensures
+    ∙ walked_over c.loop-b.invariant c.loop-b-test.true (sym c.digit.ensures ∙ c.in_ok-d.was) (omega (arith, large))
 
-pub digit-requires : goal.digit-requires
-digit-requires c = sym c.is_digit.ensures ∙ c.if-not-is_digit.false
+pub returns-in_err-value : goal.returns-in_err-value
+returns-in_err-value c =
+    let product = c.in_ok-checked_mul.ensures in
+    let large = c.in_err-value.ensures in
+    c.from_residual-in_err-value.ensures
+    ∙ walked_over c.loop-b.invariant c.loop-b-test.true (sym c.digit.ensures ∙ c.in_ok-d.was)
+    (omega (arith, product, large))
 
-pub overflow_add-value : goal.overflow_add-value
-overflow_add-value c =
-    let w = c.args.word.now in
-    omega (
-      arith,
-      walked_room w c.loop-i.i c.loop-i.value c.loop-i.invariant (omega arith),
-      c.digit.ensures.1,
-    )
-
-pub loop-i-preserved : goal.loop-i-preserved
-loop-i-preserved c =
-    let w = c.args.word.now in
-    walked_more w c.loop-i.i c.loop-i.value c.loop-i.invariant c.digit.result (omega arith)
-    (sym c.is_digit.ensures
-    ∙ c.if-not-is_digit.false)
-    c.digit.ensures.0 c.digit.ensures.1
+pub loop-b-preserved : goal.loop-b-preserved
+loop-b-preserved c =
+    let product = c.in_ok-checked_mul.ensures in
+    let sum = c.in_ok-value.ensures in
+    walked_more c.loop-b.invariant c.loop-b-test.true (sym c.digit.ensures ∙ c.in_ok-d.was)
+    (omega (arith, product, sum)) (omega (arith, sum))
 
 pub returns : goal.returns
-returns c =
-    let loop = c.loop-i in
-    walked_end c.args.word.now loop.i loop.value loop.invariant c.loop-i-test.false
+returns c = walked_end c.loop-b.invariant c.loop-b-test.false

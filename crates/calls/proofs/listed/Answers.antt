@@ -10,15 +10,15 @@ returns-then-cap-rows c =
     let a = c.args in
     let r = c.tallied-tally in
     λ t holds.
-    lists_refused a.campaign t holds a.cap 0 (0 ∷ []) r.result (r.new.area, r.ensures t holds)
+    lists_refused a.campaign.now t holds a.cap 0 (0 ∷ []) r.result (r.new.area, r.ensures t holds)
     a.area.now
     (omega arith)
 
 pub overflow_mul-needed : goal.overflow_mul-needed
 overflow_mul-needed c =
     record {
-      fits = cells_fit c.tallied-tally.result.count (c.args.campaign.tables.acts + 1) (omega arith)
-          (omega (arith, c.requires.1.ranged.acts));
+      fits = cells_fit c.tallied-tally.result.count (c.args.campaign.now.tables.acts + 1) (omega arith)
+          (omega (arith, c.args.campaign.now.tables.acts_held));
     }
 
 pub returns-then-area-needed : goal.returns-then-area-needed
@@ -26,7 +26,7 @@ returns-then-area-needed c =
     let a = c.args in
     let r = c.tallied-tally in
     λ t holds.
-    lists_short a.campaign t holds a.cap 0 (0 ∷ []) r.result (r.new.area, r.ensures t holds)
+    lists_short a.campaign.now t holds a.cap 0 (0 ∷ []) r.result (r.new.area, r.ensures t holds)
     a.area.now
     (omega arith)
     (omega arith)
@@ -36,7 +36,7 @@ returns c =
     let a = c.args in
     let r = c.tallied-tally in
     λ t holds.
-    lists_rows a.campaign t holds a.cap 0 (0 ∷ []) r.result (r.new.area, r.ensures t holds)
+    lists_rows a.campaign.now t holds a.cap 0 (0 ∷ []) r.result (r.new.area, r.ensures t holds)
     a.area.now
     (omega arith)
     (omega arith)

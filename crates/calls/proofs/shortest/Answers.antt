@@ -9,14 +9,12 @@ returns-then-cap-tally c =
     let a = c.args in
     let r = c.tallied-tally in
     λ t holds.
-    best_refused a.campaign t holds a.cap _ (0 ∷ []) r.result (r.new.area, r.ensures t holds)
-    (omega arith) _ refl
-    c.empty.ensures
+    best_refused a.campaign.now t holds a.cap _ (0 ∷ []) r.result (r.new.area, r.ensures t holds) (omega arith)
 
 pub returns : goal.returns
 returns c =
     let a = c.args in
     let r = c.tallied-tally in
     λ t holds.
-    best_found a.campaign t holds a.cap _ (0 ∷ []) r.result (r.new.area, r.ensures t holds)
-    (omega arith) (omega arith) _ refl refl
+    best_found a.campaign.now t holds a.cap _ (0 ∷ []) r.result (r.new.area, r.ensures t holds)
+    (omega arith) (omega arith) _ refl

@@ -14,10 +14,10 @@ returns c =
     let found = c.sweep.new.area in
     λ t holds.
     subst
-    (λ (x : Tally). Swept a.campaign t a.cap (variant_count t) (kept x a.area.now)
+    (λ (x : Tally). Swept a.campaign.now t a.cap (variant_count t) (kept x a.area.now)
     (kept c.tally_of.result found))
     c.none-cells.ensures.1
     (subst
-    (λ (x : Tally). Swept a.campaign t a.cap (variant_count t) (kept_of c.none-cells.result a.area.now)
+    (λ (x : Tally). Swept a.campaign.now t a.cap (variant_count t) (kept_of c.none-cells.result a.area.now)
     (kept x found))
     (sym c.tally_of.ensures) (c.sweep.ensures.swept t holds))

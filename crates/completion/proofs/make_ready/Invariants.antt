@@ -3,8 +3,5 @@ use Rattle.completion.proofs.make_ready.Given as goal
 
 -- `make_ready` meets its contract. The loop's invariant: what has been looked at is gathered and ready where it has no
 -- predecessor left.
-abbrev pub invariant-loop-rest : goal.invariant-loop-rest
-invariant-loop-rest l = Readying l.table l.tick l.left l.new l.initial.work l.work l.ready l.rest
-
-abbrev pub decreases-loop-rest : goal.decreases-loop-rest
-decreases-loop-rest l = l.rest
+abbrev pub invariant-loop-j : goal.invariant-loop-j
+invariant-loop-j l = Readying l.table l.tick l.left l.new l.initial.work l.work l.ready l.j-iterator.left

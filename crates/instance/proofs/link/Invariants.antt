@@ -6,8 +6,5 @@ use Rattle.instance.proofs.link.Given as goal
 
 -- `link` meets its contract. The loop's invariant: with the members still to come linked too, the column is what it
 -- is to be.
-abbrev pub invariant-loop-rest : goal.invariant-loop-rest
-invariant-loop-rest l = Storing next_from (λ x. bit_or x (2 ^ l.j)) l.initial.table l.set l.table l.rest
-
-abbrev pub decreases-loop-rest : goal.decreases-loop-rest
-decreases-loop-rest l = l.rest
+abbrev pub invariant-loop-i : goal.invariant-loop-i
+invariant-loop-i l = Storing next_from (λ x. bit_or x (2 ^ l.j)) l.initial.table l.set l.table l.i-iterator.left

@@ -4,8 +4,5 @@ use Rattle.instance.proofs.merge.Given as goal
 
 -- `merge` meets its contract. The loop's invariant: with the members still to come stored too, the column is what it
 -- is to be.
-abbrev pub invariant-loop-rest : goal.invariant-loop-rest
-invariant-loop-rest l = Storing component_from (λ x. l.set) l.initial.table l.set l.table l.rest
-
-abbrev pub decreases-loop-rest : goal.decreases-loop-rest
-decreases-loop-rest l = l.rest
+abbrev pub invariant-loop-i : goal.invariant-loop-i
+invariant-loop-i l = Storing component_from (λ x. l.set) l.initial.table l.set l.table l.i-iterator.left

@@ -1,44 +1,21 @@
-use Prim.Native.Nat.{◌<◌}
 use native.Mathlib.Omega.{arith}
-use Rattle.sets.specs.Sets.{most}
-use Rattle.sets.proofs.Members.{lowest_below, after_less}
-use Rattle.instance.proofs.Links.{nearing_none, nearing_more}
+use Rattle.sets.proofs.Turns.{Turn, taken}
+use Rattle.instance.proofs.Links.{nearing_more}
 use Rattle.instance.proofs.nearest.Goals as goal
+use Rattle.instance.proofs.nearest.Goals.{In-Some}
 
-pub loop-rest-init : goal.loop-rest-init
-loop-rest-init c = nearing_none c.args.table.now c.args.set c.requires
-
--- The lowest is one of the activities.
-below : (l : goal.After-lowest-i) → l.lowest-i.result < most
-below l =
-    lowest_below l.loop-rest.rest l.lowest-i.result l.loop-rest.invariant.low
-    l.loop-rest-test.true l.lowest-i.ensures
+turn : (l : In-Some) → Turn l.loop-i.i-iterator.left l.next.new.self.left l.in-Some.i
+turn l = taken l.loop-i.invariant.low l.in-Some.ensures.steps
 
 pub overflow_add-i : goal.overflow_add-i
-overflow_add-i c = omega (arith, below c)
+overflow_add-i c = omega (arith, (turn (goal.at.overflow_add-i c).In-Some).below)
 
 pub offset_bounds-table-i : goal.offset_bounds-table-i
-offset_bounds-table-i c = omega (arith, below c)
+offset_bounds-table-i c = omega (arith, (turn (goal.at.offset_bounds-table-i c).In-Some).below)
 
 pub bounds-table-i : goal.bounds-table-i
-bounds-table-i c = omega (arith, below c.before.before)
+bounds-table-i c = omega (arith, (turn (goal.at.bounds-table-i c).In-Some).below)
 
-pub loop-rest-smaller : goal.loop-rest-smaller
-loop-rest-smaller c =
-    omega (
-      arith,
-      c.after_lowest-rest.ensures,
-      after_less c.loop-rest.rest c.loop-rest.invariant.low
-          c.loop-rest-test.true,
-    )
-
-pub loop-rest-preserved : goal.loop-rest-preserved
-loop-rest-preserved c =
-    let a = c.args in
-    nearing_more a.table.now a.set c.loop-rest.near c.loop-rest.rest c.minus-near.result
-    c.after_lowest-rest.result c.lowest-i.result
-    c.loop-rest.invariant c.loop-rest-test.true c.lowest-i.ensures c.minus-near.ensures
-    c.after_lowest-rest.ensures
-
-pub returns : goal.returns
-returns c = c.loop-rest.invariant.so_far
+pub loop-i-preserved : goal.loop-i-preserved
+loop-i-preserved c =
+    nearing_more c.loop-i.invariant (turn (goal.at.loop-i-preserved c).In-Some) c.minus-near.ensures

@@ -1,4 +1,3 @@
-use Prim.Native.Nat.{◌-◌, ◌≤◌}
 use lib.Dec.{ltb}
 use Rattle.instance.specs.Table.{units_at}
 use Rattle.instance.specs.Steps.{Passing}
@@ -6,7 +5,4 @@ use Rattle.instance.proofs.users.Given as goal
 
 -- `users` meets its contract.
 abbrev pub invariant-loop-i : goal.invariant-loop-i
-invariant-loop-i l = (l.i ≤ l.acts) × Passing l.i (λ k. ltb 0 (units_at l.table k l.r)) l.set
-
-abbrev pub decreases-loop-i : goal.decreases-loop-i
-decreases-loop-i l = l.acts - l.i
+invariant-loop-i l = Passing l.i (λ k. ltb 0 (units_at l.table k l.r)) l.set

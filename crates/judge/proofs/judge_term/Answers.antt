@@ -2,67 +2,71 @@
 -- has.
 use Prim.Native.Nat.{◌≤◌}
 use native.Mathlib.Omega.{arith}
-use mathlib.Core.Bool.{true, false}
+use mathlib.Core.Bool.{false}
 use mathlib.Core.Option.{some}
-use mathlib.Core.Path.{◌≡◌, refl, sym, ◌∙◌}
-use borrow.Author.Tests.{not-true, not-false}
+use mathlib.Core.Path.{◌≡◌, sym, ap, ◌∙◌}
+use Rattle.std.specs.Prelude.{List}
 use Rattle.plan.specs.Limits.{most_variants}
 use Rattle.plan.specs.Plan.{plan_of}
-use Rattle.plan.specs.declared.Tables.{Tables}
+use Rattle.plan.specs.declared.Node.{Node}
 use Rattle.term.specs.Term.{Term, term_of}
 use Rattle.term.specs.Variants.{variant_count, twice}
-use Rattle.term_reader.specs.Reading.{reading_of}
-use Rattle.term_reader.specs.declared.Reading.{Reading}
 use Rattle.pick.proofs.Spanning.{first_counts, not_stopped}
-use Rattle.judge.proofs.Judging.{says_refusal, says_plan, not_whole, one_term, is_twice, too_many, is_accepted}
+use Rattle.term_reader.specs.Reading.{reading_of}
+use Rattle.judge.proofs.Judging.{not_whole, one_term, is_twice_lem, too_many, is_accepted}
 use Rattle.term.proofs.Reading.{plan_full}
-use Rattle.judge.proofs.Ranges.{nodes_ranged}
+use Rattle.judge.proofs.Ranges.{nodes_ranged, nodes_few}
 use Rattle.judge.proofs.judge_term.Goals as goal
+use Rattle.judge.proofs.judge_term.Goals.{In-Some}
 
-pub read_term-reading-requires : goal.read_term-reading-requires
-read_term-reading-requires c = record { held = c.requires.nodes; ranged = nodes_ranged c.requires }
+pub read_term-requires : goal.read_term-requires
+read_term-requires c =
+    rw c.all_nodes-nodes.ensures record { held = nodes_few c.requires; ranged = nodes_ranged c.requires }
 
-pub returns-then-not-reading : goal.returns-then-not-reading
-returns-then-not-reading c =
-    let p = plan_of c.args.tables in
-    says_refusal c.refused.ensures
-    (not_whole p (term_of p.nodes) c.read_term-reading.ensures (not-true _ c.if-not-reading.true))
+pub returns-in_default : goal.returns-in_default
+returns-in_default c =
+    not_whole (plan_of c.args.tables) (term_of (plan_of c.args.tables).nodes)
+    (c.in_default.ensures ∙ ap (λ (ns : List Node). reading_of (term_of ns)) c.all_nodes-nodes.ensures)
 
--- The term that the nodes are, past the first test.
-the_term : (tables : Tables) {s : Reading} → s ≡ reading_of (term_of (plan_of tables).nodes) → s.whole ≡ true
-    → (t : Term) × (term_of (plan_of tables).nodes ≡ some t) × (s.twice ≡ twice t)
-the_term tables e w = one_term (plan_of tables) (term_of (plan_of tables).nodes) e w
+-- The term that the nodes are.
+the_term : (l : In-Some)
+    → (t : Term) × (term_of (plan_of l.args.tables).nodes ≡ some t) × (l.in-Some.is_twice ≡ twice t)
+the_term l =
+    one_term (plan_of l.args.tables) (term_of (plan_of l.args.tables).nodes)
+    (l.in-Some.ensures ∙ ap (λ (ns : List Node). reading_of (term_of ns)) l.all_nodes-nodes.ensures)
 
-pub returns-then-reading : goal.returns-then-reading
-returns-then-reading c =
-    let (t, reads, clash) = the_term c.args.tables c.read_term-reading.ensures (not-false _ c.if-not-reading.false) in
-    says_refusal c.refused-then-reading.ensures
-    (is_twice (plan_of c.args.tables) t reads (sym clash ∙ c.if-reading.true))
+pub returns-then-is_twice : goal.returns-then-is_twice
+returns-then-is_twice c =
+    let (t, reads, clash) = the_term (goal.at.returns-then-is_twice c).In-Some in
+    is_twice_lem (plan_of c.args.tables) t reads (sym clash ∙ c.if-is_twice.true)
 
 pub spans_of-spans-requires : goal.spans_of-spans-requires
 spans_of-spans-requires c =
-    let (t, reads, clash) = the_term c.args.tables c.read_term-reading.ensures (not-false _ c.if-not-reading.false) in
-    (c.requires.nodes, (t, reads))
+    let (t, reads, clash) = the_term (goal.at.spans_of-spans-requires c).In-Some in
+    rw c.all_nodes-nodes.ensures (nodes_few c.requires, (t, reads))
 
 -- Past the second test no variant has an activity twice, and the first count is V.
 pub returns-then-variants-gt-MOST_VARIANTS : goal.returns-then-variants-gt-MOST_VARIANTS
 returns-then-variants-gt-MOST_VARIANTS c =
-    let (t, reads, clash) = the_term c.args.tables c.read_term-reading.ensures (not-false _ c.if-not-reading.false) in
-    says_refusal c.refused-then-variants-gt-MOST_VARIANTS.ensures
-    (too_many (plan_of c.args.tables) t reads (sym clash ∙ c.if-reading.false)
-    (omega (arith, first_counts c.spans_of-spans.ensures t reads, c.if-variants-gt-MOST_VARIANTS.true)))
+    let (t, reads, clash) = the_term (goal.at.returns-then-variants-gt-MOST_VARIANTS c).In-Some in
+    let spans = rw c.all_nodes-nodes.ensures at c.spans_of-spans.ensures in
+    too_many (plan_of c.args.tables) t reads (sym clash ∙ c.if-is_twice.false)
+    (omega (arith, first_counts spans t reads, c.if-variants-gt-MOST_VARIANTS.true))
 
 pub returns : goal.returns
 returns c =
     let r = c.requires in
-    let (t, reads, clash) = the_term c.args.tables c.read_term-reading.ensures (not-false _ c.if-not-reading.false) in
-    let once : twice t ≡ false = sym clash ∙ c.if-reading.false in
-    let counted = first_counts c.spans_of-spans.ensures t reads in
-    let few : variant_count t ≤ most_variants = omega (arith, counted, c.if-variants-gt-MOST_VARIANTS.false) in
-    says_plan t refl (is_accepted (plan_of c.args.tables) t reads once few) (record {
-      ranged = r;
-      valid = record { ranges = r.ranges; term = reads; once = once; few = few };
-      counted = omega (arith, counted, few);
-      spanned =
-          not_stopped c.spans_of-spans.ensures t reads (plan_full (plan_of c.args.tables) t r.ranges reads) few;
-    })
+    let (t, reads, clash) = the_term (goal.at.returns c).In-Some in
+    let spans = rw c.all_nodes-nodes.ensures at c.spans_of-spans.ensures in
+    let once : twice t ≡ false = sym clash ∙ c.if-is_twice.false in
+    let counted = first_counts spans t reads in
+    let few : variant_count t ≤ most_variants = omega (arith, counted, c.if-variants-gt-MOST_VARIANTS.false) in (
+      t,
+      is_accepted (plan_of c.args.tables) t reads once few,
+      record {
+        ranged = r;
+        valid = record { ranges = r.ranges; term = reads; once = once; few = few };
+        counted = omega (arith, counted, few);
+        spanned = not_stopped spans t reads (plan_full (plan_of c.args.tables) t r.ranges reads) few;
+      },
+    )

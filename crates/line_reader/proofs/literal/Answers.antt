@@ -1,19 +1,16 @@
-use mathlib.Core.Path.{sym, ◌∙◌}
-use Rattle.line_reader.proofs.Forms.{literal_matched, literal_past, literal_other}
+use Rattle.line_reader.specs.Seen.{said}
+use Rattle.line_reader.proofs.Forms.{at_end, literal_read, no_literal}
 use Rattle.line_reader.proofs.literal.Goals as goal
-use Rattle.line_reader.proofs.literal.Goals.{then-at-file+else-file-at, else-at-file}
 
-pub returns-then-file-at : goal.returns-then-file-at
-returns-then-file-at c =
-    literal_matched c.args.file.now c.args.line c.args.b c.requires.0 c.requires.1
-    c.if-at-file.true c.if-file-at.true
+pub returns-in_err-first : goal.returns-in_err-first
+returns-in_err-first c = rw c.from_residual.ensures (at_end (said c.args.line) c.args.b c.in_err-first.ensures.cases)
 
-pub returns : goal.returns
-returns c =
-    let file = c.args.file.now in
-    let line = c.args.line in
-    c.lost.ensures
-    ∙ sym (elim c.if-at-file.branch [
-      | then-at-file+else-file-at w ↦ literal_other file line c.args.b c.requires.0 c.requires.1 w.if-file-at.false
-      | else-at-file w ↦ literal_past file line c.args.b c.requires.0 c.requires.1 w.if-at-file.false
-    ])
+pub returns-then-first-b : goal.returns-then-first-b
+returns-then-first-b c =
+    literal_read (said c.args.line) _ _ c.in_ok-first.ensures.cases.0 c.args.b c.requires.0 c.requires.1
+    c.if-first-b.true
+
+pub returns-else-first-b : goal.returns-else-first-b
+returns-else-first-b c =
+    no_literal (said c.args.line) _ _ c.in_ok-first.ensures.cases.0 c.args.b c.requires.0 c.requires.1
+    c.if-first-b.false

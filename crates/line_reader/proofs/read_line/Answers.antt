@@ -1,21 +1,24 @@
-use mathlib.Core.Path.{refl, ◌∙◌}
-use native.Mathlib.Omega.{arith}
-use Rattle.line_reader.proofs.Forms.{line_again, line_done}
+use Rattle.std.proofs.Common.{◌∙◌, sym, ap, drop, ◌+◌, arith}
+use Rattle.line_reader.specs.Seen.{said}
+use Rattle.line_reader.proofs.Forms.{after, line_again, line_done}
 use Rattle.line_reader.proofs.read_line.Goals as goal
 
-pub loop-i-init : goal.loop-i-init
-loop-i-init c = (omega arith, refl)
+pub returns-in_err-line : goal.returns-in_err-line
+returns-in_err-line c =
+    let loop = c.loop-b in
+    let rest = drop (loop.b-index + 1) c.args.form.now in
+    rw c.from_residual.ensures
+    (sym loop.invariant ∙ line_again c.args.form.now loop.b-index (said loop.line) (omega arith)
+    ∙ ap (after rest) c.in_err-line.ensures)
 
-pub loop-i-preserved : goal.loop-i-preserved
-loop-i-preserved c =
-    let loop = c.loop-i in (
-      omega arith,
-      line_again c.args.file.now c.args.form.now loop.line loop.i c.piece-line.result
-          (omega arith) c.piece-line.ensures
-          ∙ loop.invariant.1,
-    )
+pub loop-b-preserved : goal.loop-b-preserved
+loop-b-preserved c =
+    let loop = c.loop-b in
+    let rest = drop (loop.b-index + 1) c.args.form.now in
+    sym (ap (after rest) c.in_ok-line.ensures)
+    ∙ sym (line_again c.args.form.now loop.b-index (said loop.line) (omega arith)) ∙ loop.invariant
 
 pub returns : goal.returns
 returns c =
-    let loop = c.loop-i in
-    line_done c.args.file.now c.args.form.now loop.line loop.i (omega arith) ∙ loop.invariant.1
+    let loop = c.loop-b in
+    sym loop.invariant ∙ line_done c.args.form.now loop.b-index (said loop.line) (omega arith)

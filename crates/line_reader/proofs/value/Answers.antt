@@ -1,22 +1,34 @@
-use mathlib.Core.Path.{sym, ◌∙◌}
-use native.Mathlib.Omega.{arith}
-use Rattle.line_reader.proofs.Values.{digits_forward}
-use Rattle.line_reader.proofs.Forms.{value_matched, value_lost}
+use Rattle.std.proofs.Common.{◌≡◌, ◌≤◌, ◌∙◌, ap, sym, length, arith}
+use Rattle.plan.specs.Limits.{most_digits}
+use Rattle.format.specs.Lines.{digits, is_value}
+use Rattle.line_reader.specs.Seen.{said}
+use Rattle.line_reader.proofs.Values.{digits_within, digits_taken, all_digits, value_size}
+use Rattle.line_reader.proofs.Forms.{value_read, no_value}
 use Rattle.line_reader.proofs.value.Goals as goal
+use Rattle.line_reader.proofs.value.Goals.{After-split_at}
 
-pub overflow_sub-size : goal.overflow_sub-size
-overflow_sub-size c =
-    omega (arith, digits_forward c.args.file.now c.args.line.next c.read_digits-n.ensures)
+-- The digits that are split off.
+front : (c : After-split_at) → c.split_at.result.0.now ≡ digits c.args.line.rest.now
+front c = rw c.digit_count.ensures at c.split_at.ensures.front ∙ digits_taken c.args.line.rest.now
+
+pub split_at-requires : goal.split_at-requires
+split_at-requires c = omega (arith, digits_within c.args.line.rest.now)
+
+pub decimal-requires : goal.decimal-requires
+decimal-requires c =
+    let e = front (goal.at.decimal-requires c).After-split_at in
+    let size : length c.split_at.result.0.now ≤ most_digits
+    =
+    value_size c.split_at.result.0.now (sym c.is_value.ensures ∙ c.if-is_value.true) in
+    (rw e (all_digits c.args.line.rest.now), size)
 
 pub returns-then-is_value : goal.returns-then-is_value
 returns-then-is_value c =
-    value_matched c.args.file.now c.args.line c.read_digits-n.ensures
-    c.byte.ensures
-    c.is_value.ensures c.if-is_value.true
+    let e = front (goal.at.returns-then-is_value c).After-split_at in
+    rw (c.decimal.ensures, e, c.split_at.ensures.back, c.digit_count.ensures)
+    (value_read (said c.args.line) (ap is_value (sym e) ∙ sym c.is_value.ensures ∙ c.if-is_value.true))
 
 pub returns-else-is_value : goal.returns-else-is_value
 returns-else-is_value c =
-    c.lost.ensures
-    ∙ sym (value_lost c.args.file.now c.args.line c.read_digits-n.ensures
-    c.byte.ensures
-    c.is_value.ensures c.if-is_value.false)
+    let e = front (goal.at.returns-else-is_value c).After-split_at in
+    no_value (said c.args.line) (ap is_value (sym e) ∙ sym c.is_value.ensures ∙ c.if-is_value.false)

@@ -5,125 +5,112 @@ use mathlib.Core.List.{List}
 use mathlib.Core.Bool.{Bool, true}
 use mathlib.Core.Path.{◌≡◌, sym, ap, ◌∙◌, subst}
 use borrow.Author.Tests.{ltb-true}
-use lib.ListN.{length}
 use Rattle.plan.specs.Limits.{latest_possible}
 use Rattle.sets.specs.Sets.{most, has, size}
 use Rattle.sets.proofs.Laws.{size_without}
-use Rattle.sets.proofs.Members.{lowest_below, lowest_has, after_less, two_left}
-use Rattle.sets.proofs.Turns.{Turn}
+use Rattle.sets.proofs.Members.{two_left}
+use Rattle.sets.proofs.Turns.{Turn, taken, none_left}
 use Rattle.schedule.specs.Schedule.{Starts, moved}
 use Rattle.branching.proofs.Room.{adding}
 use Rattle.instance.specs.Table.{duration_at, cap_of}
 use Rattle.tally.specs.Seen.{kept_of, tally_of}
 use Rattle.unbranched.specs.Position.{Given}
 use Rattle.ordering.specs.Lone.{from_at, Lone, Ordered}
-use Rattle.ordering.proofs.Lone.{lone_alone, stop_early, stored_lone, taken}
+use Rattle.ordering.proofs.Lone.{lone_alone, stop_early, stored_lone}
+use Rattle.ordering.proofs.Lone.{taken as chosen}
 use Rattle.ordering.proofs.Ordered.{Going, going_first, going_on, going_last, passed}
 use Rattle.ordering.proofs.+order.Goals as goal
-use Rattle.ordering.proofs.+order.Goals.{After-after_lowest-rest, After-later, After-lowest-j, After-without-fewer}
+use Rattle.ordering.proofs.+order.Goals.{In-Some, After-max, After-without-fewer}
 
 -- the end of the activity, once it is known, and where it is stored
-abbrev end_of_lem : {t : ℕ} → After-later t → ℕ
-end_of_lem c = c.later.result + duration_at c.args.table.now c.lowest-j.result
+abbrev end_of_lem : {t : ℕ} → After-max t → ℕ
+end_of_lem c = c.max.result + duration_at c.args.table.now c.in-Some.j
 
 abbrev stop_of : {t : ℕ} → After-without-fewer t → ℕ
-stop_of c = c.later.result + duration_at c.args.table.now c.lowest-j.result
+stop_of c = c.max.result + duration_at c.args.table.now c.in-Some.j
 
-low : {t : ℕ} (c : After-lowest-j t) → c.lowest-j.result < most
-low c =
-    lowest_below c.loop-rest.rest c.lowest-j.result c.loop-rest.invariant.inside c.loop-rest-test.true
-    c.lowest-j.ensures
+turn : {t : ℕ} (c : In-Some t) → Turn c.loop-j.j-iterator.left c.next.new.self.left c.in-Some.j
+turn c = taken c.loop-j.invariant.inside c.in-Some.ensures.steps
 
-member : {t : ℕ} (c : After-lowest-j t) → has c.args.left c.lowest-j.result ≡ true
-member c =
-    c.loop-rest.invariant.within c.lowest-j.result
-    (lowest_has c.loop-rest.rest c.lowest-j.result c.loop-rest.invariant.inside c.loop-rest-test.true
-    c.lowest-j.ensures)
+low : {t : ℕ} (c : In-Some t) → c.in-Some.j < most
+low c = (turn c).below
 
--- fewer are still to come
-less : {t : ℕ} (c : After-after_lowest-rest t) → c.after_lowest-rest.result < c.loop-rest.rest
-less c =
-    omega (
-      arith,
-      c.after_lowest-rest.ensures,
-      after_less c.loop-rest.rest c.loop-rest.invariant.inside c.loop-rest-test.true,
-    )
+member : {t : ℕ} (c : In-Some t) → has c.args.left c.in-Some.j ≡ true
+member c = c.loop-j.invariant.within c.in-Some.j (turn c).there
 
-ends_at : {t : ℕ} (c : After-later t)
+ends_at : {t : ℕ} (c : After-max t)
     → end_of_lem c
-    ≡ from_at c.loop-rest.work c.args.free c.lowest-j.result + duration_at c.args.table.now c.lowest-j.result
-ends_at c = omega (arith, c.later.ensures, c.ready_of.ensures)
+    ≡ from_at c.loop-j.work c.args.free c.in-Some.j + duration_at c.args.table.now c.in-Some.j
+ends_at c = omega (arith, c.max.ensures, c.ready_of.ensures)
 
-end_early : {t : ℕ} (c : After-later t) → has c.args.left c.lowest-j.result ≡ true → end_of_lem c ≤ latest_possible
+end_early : {t : ℕ} (c : After-max t) → has c.args.left c.in-Some.j ≡ true → end_of_lem c ≤ latest_possible
 end_early c there =
     let given = c.requires in
-    stop_early c.args.table.now given.0.whole (lone_alone c.loop-rest.invariant.beside given.2.2) c.lowest-j.result
+    stop_early c.args.table.now given.0.whole (lone_alone c.loop-j.invariant.beside given.2.2) c.in-Some.j
     there (ends_at c)
 
-off : {t : ℕ} (c : After-without-fewer t) → c.lowest-j.result < most → has c.args.left c.lowest-j.result ≡ true
-    → Turn c.args.left c.without-fewer.result c.lowest-j.result
+off : {t : ℕ} (c : After-without-fewer t) → c.in-Some.j < most → has c.args.left c.in-Some.j ≡ true
+    → Turn c.args.left c.without-fewer.result c.in-Some.j
 off c few there =
-    taken c.args.left c.without-fewer.result c.lowest-j.result c.requires.2.2.low few there c.without-fewer.ensures
+    chosen c.args.left c.without-fewer.result c.in-Some.j c.requires.2.2.low few there c.without-fewer.ensures
 
 -- what is frozen below
 below_at : {t : ℕ} (c : After-without-fewer t)
     → let s = c.args in
-    let j = c.lowest-j.result in
+    let j = c.in-Some.j in
     Turn s.left c.without-fewer.result j
-    → stop_of c ≡ from_at c.loop-rest.work s.free j + duration_at s.table.now j
+    → stop_of c ≡ from_at c.loop-j.work s.free j + duration_at s.table.now j
     → (F : ℕ → Bool) (S : Starts)
     → Lone s.table.now s.left s.free s.latest s.work.now F S
-    → Lone s.table.now c.without-fewer.result (stop_of c) c.later-last.result c.store_end.new.work
-    (adding F j) (moved S j (from_at c.loop-rest.work s.free j))
+    → Lone s.table.now c.without-fewer.result (stop_of c) c.max-last.result c.store_end.new.work
+    (adding F j) (moved S j (from_at c.loop-j.work s.free j))
 below_at c turn ends F S lone =
     let s = c.args in
-    let j = c.lowest-j.result in
+    let j = c.in-Some.j in
     subst
     (λ (w : List ℕ).
-    Lone s.table.now c.without-fewer.result (stop_of c) c.later-last.result w (adding F j)
-    (moved S j (from_at c.loop-rest.work s.free j)))
+    Lone s.table.now c.without-fewer.result (stop_of c) c.max-last.result w (adding F j)
+    (moved S j (from_at c.loop-j.work s.free j)))
     (sym c.store_end.ensures)
-    (stored_lone s.table.now c.requires.0.whole (lone_alone c.loop-rest.invariant.beside lone) j turn.there
-    ends turn c.later-last.ensures)
+    (stored_lone s.table.now c.requires.0.whole (lone_alone c.loop-j.invariant.beside lone) j turn.there
+    ends turn c.max-last.ensures)
 
 -- two are left, and so one is left below
-more_left : {t : ℕ} (c : After-without-fewer t) → has c.args.left c.lowest-j.result ≡ true
+more_left : {t : ℕ} (c : After-without-fewer t) → has c.args.left c.in-Some.j ≡ true
     → 0 < c.without-fewer.result
 more_left c there =
     let given = c.requires in
     omega (
       arith,
       c.without-fewer.ensures,
-      two_left c.args.left given.2.2.low given.1 c.lowest-j.result there,
+      two_left c.args.left given.2.2.low given.1 c.in-Some.j there,
     )
 
-below-given : {t : ℕ} (c : After-without-fewer t) → Given c.args.table.now c.args.book.now c.loop-rest.cells
+below-given : {t : ℕ} (c : After-without-fewer t) → Given c.args.table.now c.args.book.now c.loop-j.cells
 below-given c =
     let given = c.requires.0 in
-    record { whole = given.whole; prior = given.prior; tally = c.loop-rest.invariant.tally }
+    record { whole = given.whole; prior = given.prior; tally = c.loop-j.invariant.tally }
 
 -- a branch has been searched
 went_on : {t : ℕ} (c : After-without-fewer t) {w cells area : List ℕ}
     → let a = c.args in
-    let j = c.lowest-j.result in
+    let j = c.in-Some.j in
     Turn a.left c.without-fewer.result j
-    → stop_of c ≡ from_at c.loop-rest.work a.free j + duration_at a.table.now j
-    → Ordered a.table.now a.book.now c.without-fewer.result (stop_of c) c.later-last.result
-    (kept_of c.loop-rest.cells c.loop-rest.area) c.store_end.new.work w cells area
-    → length area ≡ length c.loop-rest.area
+    → stop_of c ≡ from_at c.loop-j.work a.free j + duration_at a.table.now j
+    → Ordered a.table.now a.book.now c.without-fewer.result (stop_of c) c.max-last.result
+    (kept_of c.loop-j.cells c.loop-j.area) c.store_end.new.work w cells area
     → Going a.table.now a.book.now a.left a.free a.latest (kept_of a.cells.now a.area.now) a.work.now w cells area
-    c.after_lowest-rest.result
-went_on c {w} {cells} {area} turn ends done same =
+    c.next.new.self.left
+went_on c {w} {cells} {area} turn ends done =
     let a = c.args in
     going_on a.table.now a.book.now c.requires.0.whole a.left a.free a.latest
-    c.loop-rest.invariant c.loop-rest-test.true c.lowest-j.ensures c.after_lowest-rest.ensures turn
-    ends c.later-last.ensures
+    c.loop-j.invariant c.in-Some.ensures.steps turn
+    ends c.max-last.ensures
     (subst
     (λ (x : List ℕ).
-    Ordered a.table.now a.book.now c.without-fewer.result (stop_of c) c.later-last.result
-    (kept_of c.loop-rest.cells c.loop-rest.area) x w cells area)
+    Ordered a.table.now a.book.now c.without-fewer.result (stop_of c) c.max-last.result
+    (kept_of c.loop-j.cells c.loop-j.area) x w cells area)
     c.store_end.ensures done)
-    same
 
 pub returns-then-is_over : goal.returns-then-is_over
 returns-then-is_over t c =
@@ -134,75 +121,72 @@ returns-then-is_over t c =
     (ltb-true (cap_of a.table.now) (tally_of a.cells.now).count
     (sym c.is_over.ensures ∙ c.if-is_over.true))
 
-pub loop-rest-init : goal.loop-rest-init
-loop-rest-init t c =
+pub loop-j-init : goal.loop-j-init
+loop-j-init t c =
     let a = c.args in
     let given = c.requires in
-    going_first a.table.now a.book.now given.0.whole a.left a.free a.latest
-    given.2.2.timed given.0.tally given.2.2.low
+    rw (c.into_iter-j-iterator.ensures.into_iter_gives, c.activities-j-items.ensures)
+    (going_first a.table.now a.book.now given.0.whole a.left a.free a.latest given.2.2.timed given.0.tally
+    given.2.2.low)
 
 pub ready_of-requires : goal.ready_of-requires
-ready_of-requires t c = omega (arith, low (goal.at.ready_of-requires t c).After-lowest-j)
+ready_of-requires t c = omega (arith, low (goal.at.ready_of-requires t c).In-Some)
 
 pub offset_bounds-table-j : goal.offset_bounds-table-j
-offset_bounds-table-j t c = omega (arith, low (goal.at.offset_bounds-table-j t c).After-lowest-j)
+offset_bounds-table-j t c = omega (arith, low (goal.at.offset_bounds-table-j t c).In-Some)
 
 pub bounds-table-j : goal.bounds-table-j
-bounds-table-j t c = omega (arith, low (goal.at.bounds-table-j t c).After-lowest-j)
+bounds-table-j t c = omega (arith, low (goal.at.bounds-table-j t c).In-Some)
 
 pub overflow_add-end : goal.overflow_add-end
 overflow_add-end t c =
     let p = goal.at.overflow_add-end t c in
-    omega (arith, end_early p.After-later (member p.After-lowest-j))
+    omega (arith, end_early p.After-max (member p.In-Some))
 
 pub store_end-requires : goal.store_end-requires
-store_end-requires t c = omega (arith, low (goal.at.store_end-requires t c).After-lowest-j)
+store_end-requires t c = omega (arith, low (goal.at.store_end-requires t c).In-Some)
 
 pub without-fewer-requires : goal.without-fewer-requires
 without-fewer-requires t c =
-    let p = (goal.at.without-fewer-requires t c).After-lowest-j in (low p, member p)
+    let p = (goal.at.without-fewer-requires t c).In-Some in (low p, member p)
 
 pub after_lowest-requires : goal.after_lowest-requires
 after_lowest-requires t c =
     let p = goal.at.after_lowest-requires t c in
-    more_left p.After-without-fewer (member p.After-lowest-j)
+    more_left p.After-without-fewer (member p.In-Some)
 
 pub finish-requires : goal.finish-requires
 finish-requires t c =
     let p = goal.at.finish-requires t c in
     let b = p.After-without-fewer in
-    let l = p.After-lowest-j in
+    let l = p.In-Some in
     let s = c.args in
-    let j = c.lowest-j.result in
+    let j = c.in-Some.j in
     let lone = c.requires.2 in (
       below-given b,
       more_left b (member l),
       sym c.after_lowest.ensures ∙ c.if-after_lowest-eq0.true,
       (
         adding lone.0 j,
-        moved lone.1 j (from_at c.loop-rest.work s.free j),
-        below_at b (off b (low l) (member l)) (ends_at p.After-later) lone.0 lone.1 lone.2,
+        moved lone.1 j (from_at c.loop-j.work s.free j),
+        below_at b (off b (low l) (member l)) (ends_at p.After-max) lone.0 lone.1 lone.2,
       ),
     )
 
-pub loop-rest-smaller-then-after_lowest-eq0 : goal.loop-rest-smaller-then-after_lowest-eq0
-loop-rest-smaller-then-after_lowest-eq0 t c =
-    less (goal.at.loop-rest-smaller-then-after_lowest-eq0 t c).After-after_lowest-rest
-
-pub loop-rest-preserved-then-after_lowest-eq0 : goal.loop-rest-preserved-then-after_lowest-eq0
-loop-rest-preserved-then-after_lowest-eq0 t c =
-    let p = goal.at.loop-rest-preserved-then-after_lowest-eq0 t c in
+pub loop-j-preserved-then-after_lowest-eq0 : goal.loop-j-preserved-then-after_lowest-eq0
+loop-j-preserved-then-after_lowest-eq0 t c =
+    let p = goal.at.loop-j-preserved-then-after_lowest-eq0 t c in
     let b = p.After-without-fewer in
-    let l = p.After-lowest-j in
-    went_on b (off b (low l) (member l)) (ends_at p.After-later) c.finish.ensures c.finish.auto.area
+    let l = p.In-Some in
+    went_on b (off b (low l) (member l)) (ends_at p.After-max) c.finish.ensures
 
 pub order-requires : goal.order-requires
 order-requires t c =
     let p = goal.at.order-requires t c in
     let b = p.After-without-fewer in
-    let l = p.After-lowest-j in
+    let l = p.In-Some in
     let s = c.args in
-    let j = c.lowest-j.result in
+    let j = c.in-Some.j in
     let lone = c.requires.2 in (
       omega (
         arith,
@@ -215,25 +199,22 @@ order-requires t c =
         omega (arith, c.after_lowest.ensures, c.if-after_lowest-eq0.false),
         (
           adding lone.0 j,
-          moved lone.1 j (from_at c.loop-rest.work s.free j),
-          below_at b (off b (low l) (member l)) (ends_at p.After-later) lone.0 lone.1 lone.2,
+          moved lone.1 j (from_at c.loop-j.work s.free j),
+          below_at b (off b (low l) (member l)) (ends_at p.After-max) lone.0 lone.1 lone.2,
         ),
       ),
     )
 
-pub loop-rest-smaller : goal.loop-rest-smaller
-loop-rest-smaller t c = less (goal.at.loop-rest-smaller t c).After-after_lowest-rest
-
-pub loop-rest-preserved : goal.loop-rest-preserved
-loop-rest-preserved t c =
-    let p = goal.at.loop-rest-preserved t c in
+pub loop-j-preserved : goal.loop-j-preserved
+loop-j-preserved t c =
+    let p = goal.at.loop-j-preserved t c in
     let b = p.After-without-fewer in
-    let l = p.After-lowest-j in
-    went_on b (off b (low l) (member l)) (ends_at p.After-later) c.order.ensures c.order.auto.area
+    let l = p.In-Some in
+    went_on b (off b (low l) (member l)) (ends_at p.After-max) c.order.ensures
 
 pub returns : goal.returns
 returns t c =
     let a = c.args in
     let given = c.requires in
     going_last a.table.now a.book.now given.0.whole a.left a.free a.latest
-    c.loop-rest.invariant c.loop-rest-test.false given.2.2.low given.1
+    c.loop-j.invariant (none_left c.in-None.ensures.steps) given.2.2.low given.1

@@ -7,10 +7,7 @@ use Rattle.ordering.proofs.+order.Given as goal
 abbrev pub decreases-order : goal.decreases-order
 decreases-order l = size l.left most
 
-abbrev pub invariant-loop-rest : goal.invariant-loop-rest
-invariant-loop-rest l =
+abbrev pub invariant-loop-j : goal.invariant-loop-j
+invariant-loop-j l =
     Going l.table l.book l.left l.free l.latest (kept_of l.initial.cells l.initial.area) l.initial.work
-    l.work l.cells l.area l.rest
-
-abbrev pub decreases-loop-rest : goal.decreases-loop-rest
-decreases-loop-rest l = l.rest
+    l.work l.cells l.area l.j-iterator.left

@@ -18,15 +18,15 @@ use Rattle.ordering.proofs.Lone.{stop_early, stored_lone}
 use Rattle.ordering.proofs.Rows.{whole_leaf, whole_active}
 use Rattle.ordering.proofs.Ordered.{finished}
 use Rattle.ordering.proofs.finish.Goals as goal
-use Rattle.ordering.proofs.finish.Goals.{After-later, After-later-last, After-lowest-i}
+use Rattle.ordering.proofs.finish.Goals.{After-max, After-max-last, After-lowest-i}
 
-abbrev end_of_lem : After-later → ℕ
-end_of_lem c = c.later.result + duration_at c.args.table.now c.lowest-i.result
+abbrev end_of_lem : After-max → ℕ
+end_of_lem c = c.max.result + duration_at c.args.table.now c.lowest-i.result
 
-abbrev one_of : After-later-last → ℕ
+abbrev one_of : After-max-last → ℕ
 one_of c = c.lowest-i.result
 
-abbrev work-of : After-later-last → List ℕ
+abbrev work-of : After-max-last → List ℕ
 work-of c = c.store_end.new.work
 
 -- nothing is left below
@@ -36,46 +36,46 @@ turn c =
     turned c.args.left 0 c.lowest-i.result pre.3.2.low (λ e. omega (arith, pre.1))
     c.lowest-i.ensures (sym pre.2)
 
-ends_at : (c : After-later)
+ends_at : (c : After-max)
     → let a = c.args in
     end_of_lem c ≡ from_at a.work.now a.free c.lowest-i.result
     + duration_at a.table.now c.lowest-i.result
-ends_at c = omega (arith, c.later.ensures, c.ready_of.ensures)
+ends_at c = omega (arith, c.max.ensures, c.ready_of.ensures)
 
-end_early : (c : After-later) → Turn c.args.left 0 c.lowest-i.result → end_of_lem c ≤ latest_possible
+end_early : (c : After-max) → Turn c.args.left 0 c.lowest-i.result → end_of_lem c ≤ latest_possible
 end_early c one =
     stop_early c.args.table.now c.requires.0.whole c.requires.3.2 c.lowest-i.result one.there (ends_at c)
 
 -- the end, where it is stored
-abbrev stop_of : After-later-last → ℕ
-stop_of c = c.later.result + duration_at c.args.table.now c.lowest-i.result
+abbrev stop_of : After-max-last → ℕ
+stop_of c = c.max.result + duration_at c.args.table.now c.lowest-i.result
 
 -- what is frozen then
-below : (c : After-later-last) → Turn c.args.left 0 c.lowest-i.result
+below : (c : After-max-last) → Turn c.args.left 0 c.lowest-i.result
     → let a = c.args in
     stop_of c ≡ from_at a.work.now a.free (one_of c) + duration_at a.table.now (one_of c)
     → (F : ℕ → Bool) (S : Starts) → Lone a.table.now a.left a.free a.latest a.work.now F S
-    → Lone a.table.now 0 (stop_of c) c.later-last.result (work-of c) (adding F (one_of c))
+    → Lone a.table.now 0 (stop_of c) c.max-last.result (work-of c) (adding F (one_of c))
     (moved S (one_of c) (from_at a.work.now a.free (one_of c)))
 below c one ends F S lone =
     let a = c.args in
     subst
     (λ (w : List ℕ).
-    Lone a.table.now 0 (stop_of c) c.later-last.result w (adding F (one_of c))
+    Lone a.table.now 0 (stop_of c) c.max-last.result w (adding F (one_of c))
     (moved S (one_of c) (from_at a.work.now a.free (one_of c))))
     (sym c.store_end.ensures)
     (stored_lone a.table.now c.requires.0.whole lone (one_of c) one.there ends one
-    c.later-last.ensures)
+    c.max-last.ensures)
 
-leaf : (c : After-later-last) → Turn c.args.left 0 c.lowest-i.result
+leaf : (c : After-max-last) → Turn c.args.left 0 c.lowest-i.result
     → stop_of c ≡ from_at c.args.work.now c.args.free (one_of c) + duration_at c.args.table.now (one_of c)
-    → Leaf c.args.table.now (work-of c) c.later-last.result c.args.cells.now
+    → Leaf c.args.table.now (work-of c) c.max-last.result c.args.cells.now
 leaf c one ends =
     let pre = c.requires in
     whole_leaf c.args.table.now pre.0.whole (below c one ends pre.3.0 pre.3.1 pre.3.2) pre.0.tally
 
 -- by either way the schedule has been seen
-seen_last : (c : After-later-last) → Turn c.args.left 0 c.lowest-i.result
+seen_last : (c : After-max-last) → Turn c.args.left 0 c.lowest-i.result
     → stop_of c ≡ from_at c.args.work.now c.args.free (one_of c) + duration_at c.args.table.now (one_of c)
     → {cells area : List ℕ} → IsTally cells
     → let a = c.args in
@@ -93,7 +93,7 @@ seen_last c one ends {cells} {area} tally kept =
     subst (λ (w : List ℕ). Ordered t a.book.now a.left a.free a.latest k a.work.now w cells area)
     (sym stored)
     (finished t a.book.now pre.0.whole a.left a.free a.latest k one
-    ends c.later-last.ensures (subst Timed stored (leaf c one ends).ended.timed) tally
+    ends c.max-last.ensures (subst Timed stored (leaf c one ends).ended.timed) tally
     (kept ∙ ap (λ (w : List ℕ). seen_in t a.book.now k (row_in t w)) stored))
 
 pub ready_of-requires : goal.ready_of-requires
@@ -108,7 +108,7 @@ bounds-table-i c = omega (arith, (turn (goal.at.bounds-table-i c).After-lowest-i
 pub overflow_add-end : goal.overflow_add-end
 overflow_add-end c =
     let p = goal.at.overflow_add-end c in
-    omega (arith, end_early p.After-later (turn p.After-lowest-i))
+    omega (arith, end_early p.After-max (turn p.After-lowest-i))
 
 pub store_end-requires : goal.store_end-requires
 store_end-requires c = omega (arith, (turn (goal.at.store_end-requires c).After-lowest-i).below)
@@ -116,17 +116,17 @@ store_end-requires c = omega (arith, (turn (goal.at.store_end-requires c).After-
 pub leave-requires : goal.leave-requires
 leave-requires c =
     let p = goal.at.leave-requires c in
-    leaf p.After-later-last (turn p.After-lowest-i) (ends_at p.After-later)
+    leaf p.After-max-last (turn p.After-lowest-i) (ends_at p.After-max)
 
 pub leave_new-requires : goal.leave_new-requires
 leave_new-requires c =
     let p = goal.at.leave_new-requires c in
     let one = turn p.After-lowest-i in
-    let ends = ends_at p.After-later in
+    let ends = ends_at p.After-max in
     let pre = c.requires in (
-      leaf p.After-later-last one ends,
+      leaf p.After-max-last one ends,
       pre.0.prior,
-      whole_active c.args.table.now pre.0.whole (below p.After-later-last one ends pre.3.0 pre.3.1 pre.3.2),
+      whole_active c.args.table.now pre.0.whole (below p.After-max-last one ends pre.3.0 pre.3.1 pre.3.2),
     )
 
 pub returns-then-table-eq0 : goal.returns-then-table-eq0
@@ -134,14 +134,14 @@ returns-then-table-eq0 c =
     let p = goal.at.returns-then-table-eq0 c in
     let a = c.args in
     let left = c.leave.ensures in
-    seen_last p.After-later-last (turn p.After-lowest-i) (ends_at p.After-later) left.tally
+    seen_last p.After-max-last (turn p.After-lowest-i) (ends_at p.After-max) left.tally
     (left.area_after
     ∙ seen_first a.table.now a.book.now (kept_of a.cells.now a.area.now)
-    (row_in a.table.now (work-of p.After-later-last))
+    (row_in a.table.now (work-of p.After-max-last))
     c.if-table-eq0.true)
 
 pub returns-else-table-eq0 : goal.returns-else-table-eq0
 returns-else-table-eq0 c =
     let p = goal.at.returns-else-table-eq0 c in
     let left = c.leave_new.ensures in
-    seen_last p.After-later-last (turn p.After-lowest-i) (ends_at p.After-later) left.tally left.area_after
+    seen_last p.After-max-last (turn p.After-lowest-i) (ends_at p.After-max) left.tally left.area_after

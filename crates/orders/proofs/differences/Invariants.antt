@@ -1,6 +1,5 @@
-use Prim.Native.Nat.{◌+◌, ◌-◌}
+use Prim.Native.Nat.{◌+◌}
 use lib.ListN.{get_or}
-use Rattle.sets.specs.Sets.{most}
 use Rattle.orders.specs.Book.{order_from}
 use Rattle.orders.proofs.Differing.{Differing}
 use Rattle.orders.proofs.differences.Given as goal
@@ -9,6 +8,3 @@ use Rattle.orders.proofs.differences.Given as goal
 abbrev pub invariant-loop-j : goal.invariant-loop-j
 invariant-loop-j l =
     Differing (λ i. get_or l.entry (order_from + i) 0) (λ i. get_or l.preds i 0) l.j l.set
-
-abbrev pub decreases-loop-j : goal.decreases-loop-j
-decreases-loop-j l = most - l.j

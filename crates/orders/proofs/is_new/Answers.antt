@@ -7,7 +7,7 @@ use Rattle.sets.specs.Sets.{most}
 use Rattle.instance.specs.Table.{link_of, project_in}
 use Rattle.soonest.specs.Row.{row_in}
 use Rattle.orders.specs.Book.{Chain, entry_cells, same_cell, differs_cell, order_from, present_at, order_at}
-use Rattle.orders.proofs.Links.{Passed, passed_none, passed_link, passed_more, cell, rest_length}
+use Rattle.orders.proofs.Links.{Passed, passed_none, passed_more, cell, rest_length}
 use Rattle.orders.proofs.Newness.{Inactive, order_cell, differs_present, active_there, inactive_alike}
 use Rattle.orders.proofs.Newness.{new_all, new_not}
 use Rattle.orders.proofs.is_new.Goals as goal
@@ -15,21 +15,12 @@ use Rattle.orders.proofs.is_new.Goals.{At-loop-link}
 
 module _ (t b w : List ℕ) (link : ℕ) (h : Passed (link_of t) b (Inactive (project_in t) b (row_in t w)) link)
     (chain : Chain (link_of t) b) (some : 0 < link) where
-  next-below : get_or b ((link - 1) * entry_cells + same_cell) 0 < link
-  next-below =
-      omega (
-        arith,
-        cell b (link - 1) same_cell,
-        (passed_link (link_of t) b (Inactive (project_in t) b (row_in t w)) link h chain some).upto,
-      )
-
   passed-next : Inactive (project_in t) b (row_in t w) (link - 1)
       → Passed (link_of t) b (Inactive (project_in t) b (row_in t w)) (get_or b ((link - 1) * entry_cells + same_cell) 0)
   passed-next here =
       subst (Passed (link_of t) b (Inactive (project_in t) b (row_in t w))) (sym (cell b (link - 1) same_cell))
       (passed_more (link_of t) b (Inactive (project_in t) b (row_in t w)) link h chain some here)
 
--- The link leads on to an entry before.
 -- The cell of an entry's order as the code finds it.
 order-place : (b : List ℕ) (e j : ℕ) → get_or b (e * entry_cells + order_from + j) 0 ≡ order_at b e j
 order-place b e j =
@@ -51,15 +42,6 @@ loop-link-init c =
       passed_none (link_of t) b (Inactive (project_in t) b (row_in t a.work.now)),
       omega arith,
       λ e l like same. absurd (omega (arith, c.requires.2.rivals.chain.low e 0 l (omega arith))),
-    )
-
-pub overflow_cast-link-in-loop-link : goal.overflow_cast-link-in-loop-link
-overflow_cast-link-in-loop-link c =
-    let a = c.args in
-    omega (
-      arith,
-      next-below a.table.now a.book.now a.work.now c.loop-link.link c.loop-link.invariant.0
-          c.requires.2.rivals.chain (omega arith),
     )
 
 pub misplaced-j-requires : goal.misplaced-j-requires
@@ -90,12 +72,6 @@ returns-then-j-eq-MOST_ACTS c =
     (active_there t a.work.now b c.requires.0 c.requires.1 c.requires.2 (c.loop-link.link - 1) (inside (goal.at.returns-then-j-eq-MOST_ACTS c).At-loop-link some)
     (alike (goal.at.returns-then-j-eq-MOST_ACTS c).At-loop-link some) c.misplaced-j.result c.misplaced-j.ensures c.requires.3 c.if-j-eq-MOST_ACTS.true))
 
-pub loop-link-smaller-then-book-at : goal.loop-link-smaller-then-book-at
-loop-link-smaller-then-book-at c =
-    let a = c.args in
-    next-below a.table.now a.book.now a.work.now c.loop-link.link c.loop-link.invariant.0
-    c.requires.2.rivals.chain (omega arith)
-
 pub loop-link-preserved-then-book-at : goal.loop-link-preserved-then-book-at
 loop-link-preserved-then-book-at c =
     let a = c.args in
@@ -114,12 +90,6 @@ loop-link-preserved-then-book-at c =
       some,
       λ d l like same. passed d l like (same ∙ order-place b e found.result),
     )
-
-pub loop-link-smaller : goal.loop-link-smaller
-loop-link-smaller c =
-    let a = c.args in
-    next-below a.table.now a.book.now a.work.now c.loop-link.link c.loop-link.invariant.0
-    c.requires.2.rivals.chain (omega arith)
 
 pub loop-link-preserved : goal.loop-link-preserved
 loop-link-preserved c =

@@ -1,20 +1,16 @@
-use mathlib.Core.Path.{refl}
-use native.Mathlib.Omega.{arith}
+-- `pick` starts with the first node and no nodes written.
+use Rattle.std.proofs.Common.{arith, refl}
 use Rattle.pick.proofs.Picking.{start_ready, picks}
 use Rattle.pick.proofs.pick.Goals as goal
 
--- `pick` starts with the first node and a blank draft.
-pub term-d-requires : goal.term-d-requires
-term-d-requires c =
+pub term-requires : goal.term-requires
+term-requires c =
     let (fits, spanned, one) = c.requires in
     let (t, reads, below) = one in
-    start_ready c.args.nodes c.args.letter c.args.number fits (omega arith) (omega arith) spanned t reads below
-    (record { letters = refl; numbers = refl; children = omega arith })
-    refl
+    start_ready _ fits spanned t reads below (omega arith) refl
 
 pub returns : goal.returns
 returns c =
     let (fits, spanned, one) = c.requires in
     let (t, reads, below) = one in
-    picks c.args.nodes c.args.letter c.args.number fits (omega arith) (omega arith) spanned t reads below refl
-    c.term-d.ensures
+    picks _ fits spanned t reads below refl c.term.ensures

@@ -4,7 +4,7 @@ use Rattle.std.proofs.Common.{◌+◌, ◌-◌, ◌*◌, length}
 use Rattle.precedence.proofs.+children_term.Given as goal
 
 abbrev pub decreases-children : goal.decreases-children
-decreases-children l = 2 * (length l.letter.now - l.at) + 1
+decreases-children l = 2 * (length l.nodes.now - l.at) + 1
 
 abbrev pub decreases-term : goal.decreases-term
-decreases-term l = 2 * (length l.letter.now - l.at)
+decreases-term l = 2 * (length l.nodes.now - l.at)

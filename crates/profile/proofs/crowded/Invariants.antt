@@ -3,8 +3,5 @@ use Rattle.profile.proofs.Fits.{Passable}
 use Rattle.profile.proofs.crowded.Given as goal
 
 -- `crowded` meets its contract. The loop's invariant: there is room where those start that have been looked at.
-abbrev pub invariant-loop-rest : goal.invariant-loop-rest
-invariant-loop-rest l = Passed (Passable l.table l.work l.set l.i l.x) l.set l.rest
-
-abbrev pub decreases-loop-rest : goal.decreases-loop-rest
-decreases-loop-rest l = l.rest
+abbrev pub invariant-loop-k : goal.invariant-loop-k
+invariant-loop-k l = Passed (Passable l.table l.work l.set l.i l.x) l.set l.k-iterator.left

@@ -3,7 +3,6 @@ use borrow.Author.Tests.{eqb-true}
 use mathlib.Core.Path.{refl, sym, ap, ◌∙◌}
 use Rattle.base.proofs.Bools.{true_not_false}
 use Rattle.sets.specs.Sets.{has}
-use Rattle.sets.specs.Lowest.{lowest_of}
 use Rattle.sets.proofs.Laws.{has_none}
 use Rattle.sets.proofs.Turns.{turned, one_member}
 use Rattle.profile.proofs.is_few.Goals as goal
@@ -14,10 +13,7 @@ returns-then-set-eq0 c =
 
 pub returns-else-set-eq0 : goal.returns-else-set-eq0
 returns-else-set-eq0 c =
-    let set = c.args.set in
-    let rest = c.after_lowest.result in
-    let turn =
-    turned set rest (lowest_of set) c.requires c.if-set-eq0.false refl c.after_lowest.ensures in
+    let turn = turned _ _ _ c.requires c.if-set-eq0.false refl c.after_lowest.ensures in
     record {
-      one = λ e j k y z. one_member turn (eqb-true rest 0 e) j y ∙ sym (one_member turn (eqb-true rest 0 e) k z);
+      one = λ e j k y z. one_member turn (eqb-true _ 0 e) j y ∙ sym (one_member turn (eqb-true _ 0 e) k z);
     }

@@ -8,9 +8,6 @@ use Rattle.profile.proofs.latest.Given as goal
 
 -- `latest` meets its contract. The loop's invariant: the fold over the members still to come, from the latest end so
 -- far, gives the latest of all.
-abbrev pub invariant-loop-rest : goal.invariant-loop-rest
-invariant-loop-rest l =
-    (l.rest < 2 ^ most) × (foldl (λ a i. max a (end_at l.work i)) l.last (members l.rest) ≡ latest_of l.work l.set)
-
-abbrev pub decreases-loop-rest : goal.decreases-loop-rest
-decreases-loop-rest l = l.rest
+abbrev pub invariant-loop-i : goal.invariant-loop-i
+invariant-loop-i l =
+    (l.i-iterator.left < 2 ^ most) × (foldl (λ a i. max a (end_at l.work i)) l.last (members l.i-iterator.left) ≡ latest_of l.work l.set)

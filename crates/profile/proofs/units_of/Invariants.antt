@@ -9,9 +9,6 @@ use Rattle.profile.proofs.units_of.Given as goal
 
 -- `units_of` meets its contract. The loop's invariant: the sum over the members still to come, from the sum so far,
 -- gives the sum of all.
-abbrev pub invariant-loop-rest : goal.invariant-loop-rest
-invariant-loop-rest l =
-    (l.rest < 2 ^ most) × (foldl (λ a k. a + units_at l.table k l.r) l.units (members l.rest) ≡ units_of l.table l.set l.r)
-
-abbrev pub decreases-loop-rest : goal.decreases-loop-rest
-decreases-loop-rest l = l.rest
+abbrev pub invariant-loop-k : goal.invariant-loop-k
+invariant-loop-k l =
+    (l.k-iterator.left < 2 ^ most) × (foldl (λ a k. a + units_at l.table k l.r) l.units (members l.k-iterator.left) ≡ units_of l.table l.set l.r)

@@ -1,4 +1,5 @@
 use mathlib.Core.Path.{sym, ◌∙◌}
+use borrow.Author.Tests.{le-ltb}
 use Rattle.ranges.proofs.Units.{own_there, own_past}
 use Rattle.ranges.proofs.is_activity.Goals as goal
 
@@ -9,4 +10,5 @@ returns-then-resource-resources c =
 
 pub returns-else-resource-resources : goal.returns-else-resource-resources
 returns-else-resource-resources c =
-    sym (own_past c.args.resources c.args.resource c.args.duration c.if-resource-resources.false)
+    le-ltb c.args.resource c.args.resources c.if-resource-resources.false
+    ∙ sym (own_past c.args.resources c.args.resource c.args.duration c.if-resource-resources.false)

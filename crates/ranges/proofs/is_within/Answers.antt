@@ -1,16 +1,12 @@
-use mathlib.Core.Path.{sym}
-use native.Mathlib.Omega.{arith}
-use Rattle.ranges.proofs.Units.{within_none, within_again, within_over, within_all_lem}
+use Rattle.std.proofs.Common.{◌∙◌, ℕ, leb, rules, tests}
+use Rattle.std.proofs.lemmas.Iterator.{YieldsList-from_slice, YieldsList-from_zip}
+use Rattle.std.proofs.lemmas.Iterator.Search.{all_from_yields_List}
+use Rattle.ranges.proofs.Units.{within_pairs}
 use Rattle.ranges.proofs.is_within.Goals as goal
 
-pub loop-i-init : goal.loop-i-init
-loop-i-init c = within_none (omega arith) (omega arith)
-
-pub returns-then-units-i : goal.returns-then-units-i
-returns-then-units-i c = sym (within_over c.loop-i.invariant (omega arith) c.if-units-i.true)
-
-pub loop-i-preserved : goal.loop-i-preserved
-loop-i-preserved c = within_again c.loop-i.invariant (omega arith) c.if-units-i.false
-
 pub returns : goal.returns
-returns c = sym (within_all_lem c.loop-i.invariant (omega arith))
+returns c =
+    all_from_yields_List (λ (p : ℕ × ℕ). leb p.1 p.0) c.all.new.self _ _ c.all.ensures.ran
+    (YieldsList-from_zip (YieldsList-from_slice c.args.capacities.now cc) (YieldsList-from_slice c.args.units.now cc))
+    (λ x b q k. search (rules, tests))
+    ∙ within_pairs c.args.capacities.now c.args.units.now

@@ -3,11 +3,11 @@ use native.Mathlib.Omega.{arith}
 use mathlib.Core.Bool.{true}
 use mathlib.Core.List.{List}
 use mathlib.Core.Path.{◌≡◌, sym, ap, ◌∙◌, subst}
-use lib.ListN.{length, set}
+use lib.ListN.{set}
 use borrow.Author.Tests.{ltb-true}
 use Rattle.sets.specs.Sets.{most, has, size}
 use Rattle.sets.specs.Lowest.{lowest_of}
-use Rattle.sets.proofs.Turns.{Turn, turned}
+use Rattle.sets.proofs.Turns.{Turn, taken, none_left}
 use Rattle.scan.specs.Scan.{Diagram}
 use Rattle.scan.specs.Scan.{select}
 use Rattle.instance.specs.Instance.{own_of}
@@ -17,7 +17,6 @@ use Rattle.steps.specs.Steps.{frozen_in}
 use Rattle.crowding.specs.Crowd.{crowd}
 use Rattle.tally.specs.Seen.{kept_of, tally_of}
 use Rattle.unbranched.specs.Position.{Position, Given, Explored}
-use Rattle.ordering.proofs.Branches.{lowest_least}
 use Rattle.search.specs.Choice.{Choosing, Spreading, Takes, Spreads}
 use Rattle.search.specs.Branch.{Contest}
 use Rattle.search.proofs.Branches.{turning_first, turning_next, turning_last, contested_low, choosing}
@@ -28,10 +27,7 @@ use Rattle.search.proofs.Descended.{passed, reached, explored_on, explored_same,
 use Rattle.search.proofs.Descended.{first_low, rivals_low, contest_roomy, contest_tight}
 use Rattle.search.proofs.Descended.{orders_lone, orders_explored}
 use Rattle.search.proofs.+descend_part_resolve.Goals as goal
-use Rattle.search.proofs.+descend_part_resolve.Goals.{resolve-then-many-eq0, resolve-else-many-eq0, descend-After-advance-stop, descend-After-contains, descend-After-free_of-free, descend-After-lowest-c, descend-Else-not-contains, part-After-after_lowest-rest, part-After-spread-next, resolve-After-after_lowest-rest, resolve-After-later-last, resolve-After-lowest-c, resolve-After-take-next, resolve-Joined-many-eq0}
-
-pub descend-is_over-requires : goal.descend-is_over-requires
-descend-is_over-requires t c = c.requires.0.whole
+use Rattle.search.proofs.+descend_part_resolve.Goals.{resolve-then-many-eq0, resolve-else-many-eq0, descend-After-advance-stop, descend-After-contains, descend-After-free_of-free, descend-After-lowest-c, descend-Else-not-contains, part-In-Some, part-After-spread-next, resolve-In-Some, resolve-After-max-last, resolve-After-lowest-c, resolve-After-take-next, resolve-Joined-many-eq0}
 
 pub descend-returns-then-is_over : goal.descend-returns-then-is_over
 descend-returns-then-is_over t c =
@@ -41,11 +37,6 @@ descend-returns-then-is_over t c =
     given.3 given.0.tally
     (ltb-true (cap_of a.table.now) (tally_of a.cells.now).count
     (sym c.is_over.ensures ∙ c.if-is_over.true))
-
-pub descend-advance-stop-requires : goal.descend-advance-stop-requires
-descend-advance-stop-requires t c =
-    let given = c.requires in
-    (given.0.whole, given.1, given.2, given.3)
 
 descend-reached : {t : ℕ} (c : descend-After-advance-stop t)
     → (d : Diagram) × Position c.args.table.now c.advance-stop.result.line c.advance-stop.new.work d
@@ -105,13 +96,14 @@ descend-in_conflict-requires t c =
 
 pub descend-part-requires : goal.descend-part-requires
 descend-part-requires t c =
+    let p = goal.at.descend-part-requires t c in
     let given = c.requires in
     let roomy =
-    sym (descend-tight (goal.at.descend-part-requires t c).After-contains) ∙ c.if-not-contains.true in (
-      descend-less (goal.at.descend-part-requires t c).After-lowest-c,
+    sym (descend-tight p.After-contains) ∙ c.if-not-contains.true in (
+      descend-less p.After-lowest-c,
       (
         given.0,
-        contest_roomy given.0.whole c.advance-stop.ensures given.3 (descend-some (goal.at.descend-part-requires t c).After-lowest-c) roomy
+        contest_roomy given.0.whole c.advance-stop.ensures given.3 (descend-some p.After-lowest-c) roomy
             c.in_conflict.ensures,
         roomy,
       ),
@@ -131,10 +123,6 @@ descend-contest : {t : ℕ} (c : descend-Else-not-contains t) → 0 < c.advance-
     → Contest c.args.table.now c.advance-stop.new.work c.advance-stop.result
 descend-contest c some tight = contest_tight c.requires.0.whole c.advance-stop.ensures c.requires.3 some tight
 
-pub descend-free_of-free-requires : goal.descend-free_of-free-requires
-descend-free_of-free-requires t c =
-    omega (arith, descend-low (goal.at.descend-free_of-free-requires t c).After-lowest-c)
-
 descend-free : {t : ℕ} (c : descend-After-free_of-free t)
     → c.free_of-free.result ≡ free_at c.advance-stop.new.work (lowest_of c.advance-stop.result.line.due)
 descend-free c =
@@ -142,26 +130,32 @@ descend-free c =
 
 pub descend-order-requires : goal.descend-order-requires
 descend-order-requires t c =
+    let p = goal.at.descend-order-requires t c in
+    let tight = alone-tight p.Else-not-contains (descend-tight p.After-contains) in
     let given = c.requires.0 in
-    let contest = descend-contest (goal.at.descend-order-requires t c).Else-not-contains (descend-some (goal.at.descend-order-requires t c).After-lowest-c) (alone-tight (goal.at.descend-order-requires t c).Else-not-contains (descend-tight (goal.at.descend-order-requires t c).After-contains)) in (
+    let contest = descend-contest p.Else-not-contains (descend-some p.After-lowest-c) tight in (
       given,
-      (contest.tight (alone-tight (goal.at.descend-order-requires t c).Else-not-contains (descend-tight (goal.at.descend-order-requires t c).After-contains))).1,
+      (contest.tight tight).1,
       (
         contest.some.0.frozen,
         contest.some.0.starts,
-        orders_lone given.whole contest c.if-stop.true (alone-tight (goal.at.descend-order-requires t c).Else-not-contains (descend-tight (goal.at.descend-order-requires t c).After-contains)) (descend-free (goal.at.descend-order-requires t c).After-free_of-free),
+        orders_lone given.whole contest c.if-stop.true tight (descend-free p.After-free_of-free),
       ),
     )
 
 pub descend-returns-then-stop : goal.descend-returns-then-stop
 descend-returns-then-stop t c =
-    descend-whole (goal.at.descend-returns-then-stop t c).After-advance-stop
-    (orders_explored c.requires.0.whole (descend-contest (goal.at.descend-returns-then-stop t c).Else-not-contains (descend-some (goal.at.descend-returns-then-stop t c).After-lowest-c) (alone-tight (goal.at.descend-returns-then-stop t c).Else-not-contains (descend-tight (goal.at.descend-returns-then-stop t c).After-contains))) c.if-stop.true
-    (alone-tight (goal.at.descend-returns-then-stop t c).Else-not-contains (descend-tight (goal.at.descend-returns-then-stop t c).After-contains)) (descend-free (goal.at.descend-returns-then-stop t c).After-free_of-free) c.order.ensures)
+    let p = goal.at.descend-returns-then-stop t c in
+    let tight = alone-tight p.Else-not-contains (descend-tight p.After-contains) in
+    descend-whole p.After-advance-stop
+    (orders_explored c.requires.0.whole (descend-contest p.Else-not-contains (descend-some p.After-lowest-c) tight) c.if-stop.true
+    tight (descend-free p.After-free_of-free) c.order.ensures)
 
 pub descend-resolve-requires : goal.descend-resolve-requires
 descend-resolve-requires t c =
-    (descend-less (goal.at.descend-resolve-requires t c).After-lowest-c, (c.requires.0, descend-contest (goal.at.descend-resolve-requires t c).Else-not-contains (descend-some (goal.at.descend-resolve-requires t c).After-lowest-c) (alone-tight (goal.at.descend-resolve-requires t c).Else-not-contains (descend-tight (goal.at.descend-resolve-requires t c).After-contains)), alone-tight (goal.at.descend-resolve-requires t c).Else-not-contains (descend-tight (goal.at.descend-resolve-requires t c).After-contains)))
+    let p = goal.at.descend-resolve-requires t c in
+    let tight = alone-tight p.Else-not-contains (descend-tight p.After-contains) in
+    (descend-less p.After-lowest-c, (c.requires.0, descend-contest p.Else-not-contains (descend-some p.After-lowest-c) tight, tight))
 
 pub descend-returns : goal.descend-returns
 descend-returns t c =
@@ -171,115 +165,104 @@ pub part-overflow_sub-many : goal.part-overflow_sub-many
 part-overflow_sub-many t c =
     omega (arith, some_many c.requires.0.whole c.requires.1)
 
-pub part-loop-rest-init : goal.part-loop-rest-init
-part-loop-rest-init t c =
-    turning_first c.requires.0.whole c.requires.1 c.args.book.now c.requires.0.tally
+pub part-loop-j-init : goal.part-loop-j-init
+part-loop-j-init t c =
+    rw (c.into_iter-j-iterator.ensures.into_iter_gives, c.activities-j-items.ensures)
+    (turning_first c.requires.0.whole c.requires.1 c.args.book.now c.requires.0.tally)
 
-pub part-after_lowest-rest-requires : goal.part-after_lowest-rest-requires
-part-after_lowest-rest-requires t c = omega (arith, c.loop-rest-test.true)
-
-part-turn : {t : ℕ} (c : part-After-after_lowest-rest t) → Turn c.loop-rest.rest c.after_lowest-rest.result c.lowest-j.result
+part-turn : {t : ℕ} (c : part-In-Some t) → Turn c.loop-j.j-iterator.left c.next.new.self.left c.in-Some.j
 part-turn c =
-    turned c.loop-rest.rest c.after_lowest-rest.result c.lowest-j.result c.loop-rest.invariant.inside
-    c.loop-rest-test.true c.lowest-j.ensures c.after_lowest-rest.ensures
+    taken c.loop-j.invariant.inside c.in-Some.ensures.steps
 
-part-rival : {t : ℕ} (c : part-After-after_lowest-rest t) → has c.args.stop.rivals c.lowest-j.result ≡ true
-part-rival c = c.loop-rest.invariant.within c.lowest-j.result (part-turn c).there
+part-rival : {t : ℕ} (c : part-In-Some t) → has c.args.stop.rivals c.in-Some.j ≡ true
+part-rival c = c.loop-j.invariant.within c.in-Some.j (part-turn c).there
 
 pub part-spread-next-requires : goal.part-spread-next-requires
 part-spread-next-requires t c =
     let a = c.args in
-    subst (λ (x : ℕ). Spreading a.table.now c.loop-rest.work a.stop.line x c.lowest-j.result)
+    subst (λ (x : ℕ). Spreading a.table.now c.loop-j.work a.stop.line x c.in-Some.j)
     (sym c.lowest-c.ensures)
-    (spreading c.requires.0.whole c.requires.1 c.lowest-j.result (part-rival (goal.at.part-spread-next-requires t c).After-after_lowest-rest) c.requires.2
-    c.loop-rest.invariant.beside)
+    (spreading c.requires.0.whole c.requires.1 c.in-Some.j (part-rival (goal.at.part-spread-next-requires t c).In-Some) c.requires.2
+    c.loop-j.invariant.beside)
 
 pub part-end_of-requires : goal.part-end_of-requires
-part-end_of-requires t c = omega (arith, (part-turn (goal.at.part-end_of-requires t c).After-after_lowest-rest).below)
+part-end_of-requires t c = omega (arith, (part-turn (goal.at.part-end_of-requires t c).In-Some).below)
 
 part-spreads : {t : ℕ} (c : part-After-spread-next t)
     → let a = c.args in
-    Spreads a.table.now a.stop.line (lowest_of a.stop.line.due) c.lowest-j.result
-    c.loop-rest.work c.spread-next.new.work c.spread-next.result
+    Spreads a.table.now a.stop.line (lowest_of a.stop.line.due) c.in-Some.j
+    c.loop-j.work c.spread-next.new.work c.spread-next.result
 part-spreads c =
     let a = c.args in
     subst
     (λ (x : ℕ).
-    Spreads a.table.now a.stop.line x c.lowest-j.result c.loop-rest.work c.spread-next.new.work
+    Spreads a.table.now a.stop.line x c.in-Some.j c.loop-j.work c.spread-next.new.work
     c.spread-next.result)
     c.lowest-c.ensures c.spread-next.ensures
 
-part_left : {t : ℕ} (c : part-After-spread-next t) → has c.args.stop.rivals c.lowest-j.result ≡ true
-    → c.spread-next.result.left ≡ c.args.stop.line.left - 2 ^ c.lowest-j.result
+part_left : {t : ℕ} (c : part-After-spread-next t) → has c.args.stop.rivals c.in-Some.j ≡ true
+    → c.spread-next.result.left ≡ c.args.stop.line.left - 2 ^ c.in-Some.j
 part_left c there =
     let given = c.requires in
-    spread_left given.0.whole given.1 c.lowest-j.result there given.2
-    c.loop-rest.invariant.beside (part-spreads c)
+    spread_left given.0.whole given.1 c.in-Some.j there given.2
+    c.loop-j.invariant.beside (part-spreads c)
 
-part-position : {t : ℕ} (c : part-After-spread-next t) → has c.args.stop.rivals c.lowest-j.result ≡ true → (d : Diagram)
+part-position : {t : ℕ} (c : part-After-spread-next t) → has c.args.stop.rivals c.in-Some.j ≡ true → (d : Diagram)
     → let a = c.args in
     Position a.table.now a.stop.line a.work.now d
     → Position a.table.now c.spread-next.result c.spread-next.new.work
-    (select (project_in a.table.now) (own_of a.table.now) d c.lowest-j.result)
+    (select (project_in a.table.now) (own_of a.table.now) d c.in-Some.j)
 part-position c there =
     let given = c.requires in
-    spread_position given.0.whole given.1 c.lowest-j.result there given.2
-    c.loop-rest.invariant.beside (part-spreads c)
+    spread_position given.0.whole given.1 c.in-Some.j there given.2
+    c.loop-j.invariant.beside (part-spreads c)
 
 pub part-descend-requires : goal.part-descend-requires
 part-descend-requires t c =
+    let p = goal.at.part-descend-requires t c in
     let given = c.requires in
-    let j = c.lowest-j.result in
-    let there = part-rival (goal.at.part-descend-requires t c).After-after_lowest-rest in (
+    let j = c.in-Some.j in
+    let there = part-rival p.In-Some in (
       omega (
         arith,
         c.decreases,
         rival_less given.0.whole given.1 j there,
-        ap (λ (x : ℕ). size x most) (part_left (goal.at.part-descend-requires t c).After-spread-next (part-rival (goal.at.part-descend-requires t c).After-after_lowest-rest)),
+        ap (λ (x : ℕ). size x most) (part_left p.After-spread-next there),
       ),
       (
-        record { whole = given.0.whole; prior = given.0.prior; tally = c.loop-rest.invariant.tally },
-        spread_latest given.0.whole given.1 j there given.2 c.loop-rest.invariant.beside
-            (part-spreads (goal.at.part-descend-requires t c).After-spread-next)
-            (c.later-last.ensures ∙ ap (max c.args.stop.latest) c.end_of.ensures),
+        record { whole = given.0.whole; prior = given.0.prior; tally = c.loop-j.invariant.tally },
+        spread_latest given.0.whole given.1 j there given.2 c.loop-j.invariant.beside
+            (part-spreads p.After-spread-next)
+            (c.max-last.ensures ∙ ap (max c.args.stop.latest) c.end_of.ensures),
         omega (
           arith,
           rival_more given.0.whole given.1 j there,
-          ap (crowd c.args.table.now) (part_left (goal.at.part-descend-requires t c).After-spread-next (part-rival (goal.at.part-descend-requires t c).After-after_lowest-rest)),
+          ap (crowd c.args.table.now) (part_left p.After-spread-next there),
         ),
         (
           select (project_in c.args.table.now) (own_of c.args.table.now) given.1.some.0 j,
-          part-position (goal.at.part-descend-requires t c).After-spread-next (part-rival (goal.at.part-descend-requires t c).After-after_lowest-rest) given.1.some.0 given.1.some.1,
+          part-position p.After-spread-next there given.1.some.0 given.1.some.1,
         ),
       ),
     )
 
-pub part-put_back-requires : goal.part-put_back-requires
-part-put_back-requires t c = c.descend.ensures.beside.timed.size
-
-pub part-loop-rest-smaller : goal.part-loop-rest-smaller
-part-loop-rest-smaller t c = (part-turn (goal.at.part-loop-rest-smaller t c).After-after_lowest-rest).fewer
-
-pub part-loop-rest-preserved : goal.part-loop-rest-preserved
-part-loop-rest-preserved t c =
+pub part-loop-j-preserved : goal.part-loop-j-preserved
+part-loop-j-preserved t c =
+    let p = goal.at.part-loop-j-preserved t c in
+    let there = part-rival p.In-Some in
     let done = c.descend in
     let given = c.requires in
-    let j = c.lowest-j.result in
+    let j = c.in-Some.j in
     let saved = c.ready_column-saved in
-    turning_next given.0.whole given.1 j (part-rival (goal.at.part-loop-rest-preserved t c).After-after_lowest-rest) c.args.book.now c.loop-rest.invariant (part-turn (goal.at.part-loop-rest-preserved t c).After-after_lowest-rest)
-    (lowest_least c.loop-rest.rest j c.loop-rest.invariant.inside c.loop-rest-test.true
-    c.lowest-j.ensures)
-    (part-position (goal.at.part-loop-rest-preserved t c).After-spread-next (part-rival (goal.at.part-loop-rest-preserved t c).After-after_lowest-rest)) done.ensures
-    (readied_back given.0.whole given.1 j (part-rival (goal.at.part-loop-rest-preserved t c).After-after_lowest-rest) given.2 c.loop-rest.invariant.beside (part-spreads (goal.at.part-loop-rest-preserved t c).After-spread-next)
+    turning_next given.0.whole given.1 j there c.args.book.now c.loop-j.invariant
+    c.in-Some.ensures.steps
+    (part-position p.After-spread-next there) done.ensures
+    (readied_back given.0.whole given.1 j there given.2 c.loop-j.invariant.beside (part-spreads p.After-spread-next)
     saved.result done.ensures.beside saved.ensures c.put_back.ensures)
-    done.auto.area
-
-pub part-shape_of-area : goal.part-shape_of-area
-part-shape_of-area t c = c.loop-rest.invariant.area_kept
 
 pub part-returns : goal.part-returns
 part-returns t c =
-    turning_last c.requires.0.whole c.requires.1 c.args.book.now c.loop-rest.invariant c.loop-rest-test.false
+    turning_last c.requires.0.whole c.requires.1 c.args.book.now c.loop-j.invariant (none_left c.in-None.ensures.steps)
 
 resolve-low : {t : ℕ} (c : resolve-After-lowest-c t)
     → c.lowest-c.result < most
@@ -287,161 +270,147 @@ resolve-low c =
     let given = c.requires in
     omega (arith, c.lowest-c.ensures, contested_low given.0.whole given.1)
 
-pub resolve-free_of-free-requires : goal.resolve-free_of-free-requires
-resolve-free_of-free-requires t c = omega (arith, resolve-low (goal.at.resolve-free_of-free-requires t c).After-lowest-c)
-
 pub resolve-overflow_sub-many : goal.resolve-overflow_sub-many
 resolve-overflow_sub-many t c =
     omega (arith, some_many c.requires.0.whole c.requires.1)
 
-pub resolve-loop-rest-init : goal.resolve-loop-rest-init
-resolve-loop-rest-init t c =
-    turning_first c.requires.0.whole c.requires.1 c.args.book.now c.requires.0.tally
+pub resolve-loop-j-init : goal.resolve-loop-j-init
+resolve-loop-j-init t c =
+    rw (c.into_iter-j-iterator.ensures.into_iter_gives, c.activities-j-items.ensures)
+    (turning_first c.requires.0.whole c.requires.1 c.args.book.now c.requires.0.tally)
 
-pub resolve-after_lowest-rest-requires : goal.resolve-after_lowest-rest-requires
-resolve-after_lowest-rest-requires t c = omega (arith, c.loop-rest-test.true)
-
-resolve-turn : {t : ℕ} (e : resolve-After-after_lowest-rest t) → Turn e.loop-rest.rest e.after_lowest-rest.result e.lowest-j.result
+resolve-turn : {t : ℕ} (e : resolve-In-Some t) → Turn e.loop-j.j-iterator.left e.next.new.self.left e.in-Some.j
 resolve-turn e =
-    turned e.loop-rest.rest e.after_lowest-rest.result e.lowest-j.result e.loop-rest.invariant.inside
-    e.loop-rest-test.true e.lowest-j.ensures e.after_lowest-rest.ensures
+    taken e.loop-j.invariant.inside e.in-Some.ensures.steps
 
-resolve-rival : {t : ℕ} (e : resolve-After-after_lowest-rest t) → has e.args.stop.rivals e.lowest-j.result ≡ true
-resolve-rival e = e.loop-rest.invariant.within e.lowest-j.result (resolve-turn e).there
+resolve-rival : {t : ℕ} (e : resolve-In-Some t) → has e.args.stop.rivals e.in-Some.j ≡ true
+resolve-rival e = e.loop-j.invariant.within e.in-Some.j (resolve-turn e).there
 
 pub resolve-take-next-requires : goal.resolve-take-next-requires
 resolve-take-next-requires t c =
     let a = c.args in
     subst
-    (λ (x : ℕ). Choosing a.table.now c.loop-rest.work a.stop.line x c.lowest-j.result)
+    (λ (x : ℕ). Choosing a.table.now c.loop-j.work a.stop.line x c.in-Some.j)
     (sym c.lowest-c.ensures)
-    (choosing c.requires.0.whole c.requires.1 c.lowest-j.result (resolve-rival (goal.at.resolve-take-next-requires t c).After-after_lowest-rest)
-    c.loop-rest.invariant.beside)
+    (choosing c.requires.0.whole c.requires.1 c.in-Some.j (resolve-rival (goal.at.resolve-take-next-requires t c).In-Some)
+    c.loop-j.invariant.beside)
 
 pub resolve-end_of-requires : goal.resolve-end_of-requires
-resolve-end_of-requires t c = omega (arith, (resolve-turn (goal.at.resolve-end_of-requires t c).After-after_lowest-rest).below)
+resolve-end_of-requires t c = omega (arith, (resolve-turn (goal.at.resolve-end_of-requires t c).In-Some).below)
 
 resolve-takes : {t : ℕ} (c : resolve-After-take-next t)
     → let a = c.args in
-    Takes a.table.now a.stop.line (lowest_of a.stop.line.due) c.lowest-j.result
-    c.loop-rest.work c.take-next.new.work c.take-next.result
+    Takes a.table.now a.stop.line (lowest_of a.stop.line.due) c.in-Some.j
+    c.loop-j.work c.take-next.new.work c.take-next.result
 resolve-takes c =
     let a = c.args in
     subst
     (λ (x : ℕ).
-    Takes a.table.now a.stop.line x c.lowest-j.result c.loop-rest.work c.take-next.new.work
+    Takes a.table.now a.stop.line x c.in-Some.j c.loop-j.work c.take-next.new.work
     c.take-next.result)
     c.lowest-c.ensures c.take-next.ensures
 
-resolve_left : {t : ℕ} (c : resolve-After-take-next t) → has c.args.stop.rivals c.lowest-j.result ≡ true
-    → c.take-next.result.left ≡ c.args.stop.line.left - 2 ^ c.lowest-j.result
+resolve_left : {t : ℕ} (c : resolve-After-take-next t) → has c.args.stop.rivals c.in-Some.j ≡ true
+    → c.take-next.result.left ≡ c.args.stop.line.left - 2 ^ c.in-Some.j
 resolve_left c there =
     let given = c.requires in
-    take_left given.0.whole given.1 c.lowest-j.result there given.2 c.loop-rest.invariant.beside
+    take_left given.0.whole given.1 c.in-Some.j there given.2 c.loop-j.invariant.beside
     (resolve-takes c)
 
-resolve-many : {t : ℕ} (c : resolve-After-take-next t) → has c.args.stop.rivals c.lowest-j.result ≡ true
+resolve-many : {t : ℕ} (c : resolve-After-take-next t) → has c.args.stop.rivals c.in-Some.j ≡ true
     → c.args.stop.many ≡ suc (crowd c.args.table.now c.take-next.result.left)
 resolve-many c there =
-    rival_more c.requires.0.whole c.requires.1 c.lowest-j.result there
+    rival_more c.requires.0.whole c.requires.1 c.in-Some.j there
     ∙ ap (λ (x : ℕ). suc (crowd c.args.table.now x)) (sym (resolve_left c there))
 
-resolve-given : {t : ℕ} (e : resolve-After-after_lowest-rest t)
-    → Given e.args.table.now e.args.book.now e.loop-rest.cells
+resolve-given : {t : ℕ} (e : resolve-In-Some t)
+    → Given e.args.table.now e.args.book.now e.loop-j.cells
 resolve-given e =
     let given = e.requires.0 in
-    record { whole = given.whole; prior = given.prior; tally = e.loop-rest.invariant.tally }
+    record { whole = given.whole; prior = given.prior; tally = e.loop-j.invariant.tally }
 
-resolve-latest : {t : ℕ} (c : resolve-After-later-last t) → has c.args.stop.rivals c.lowest-j.result ≡ true
-    → Takes c.args.table.now c.args.stop.line (lowest_of c.args.stop.line.due) c.lowest-j.result
-    c.loop-rest.work c.take-next.new.work c.take-next.result
-    → c.later-last.result ≡ latest_of c.take-next.new.work (frozen_in c.take-next.result)
+resolve-latest : {t : ℕ} (c : resolve-After-max-last t) → has c.args.stop.rivals c.in-Some.j ≡ true
+    → Takes c.args.table.now c.args.stop.line (lowest_of c.args.stop.line.due) c.in-Some.j
+    c.loop-j.work c.take-next.new.work c.take-next.result
+    → c.max-last.result ≡ latest_of c.take-next.new.work (frozen_in c.take-next.result)
 resolve-latest c there takes =
     let given = c.requires in
-    take_latest given.0.whole given.1 c.lowest-j.result there given.2
-    c.loop-rest.invariant.beside takes
-    (c.later-last.ensures ∙ ap (max c.args.stop.latest) c.end_of.ensures)
+    take_latest given.0.whole given.1 c.in-Some.j there given.2
+    c.loop-j.invariant.beside takes
+    (c.max-last.ensures ∙ ap (max c.args.stop.latest) c.end_of.ensures)
 
-resolve-position : {t : ℕ} (c : resolve-After-take-next t) → has c.args.stop.rivals c.lowest-j.result ≡ true → (d : Diagram)
+resolve-position : {t : ℕ} (c : resolve-After-take-next t) → has c.args.stop.rivals c.in-Some.j ≡ true → (d : Diagram)
     → let a = c.args in
     Position a.table.now a.stop.line a.work.now d
     → Position a.table.now c.take-next.result c.take-next.new.work
-    (select (project_in a.table.now) (own_of a.table.now) d c.lowest-j.result)
+    (select (project_in a.table.now) (own_of a.table.now) d c.in-Some.j)
 resolve-position c there =
     let given = c.requires in
-    take_position given.0.whole given.1 c.lowest-j.result there given.2
-    c.loop-rest.invariant.beside (resolve-takes c)
+    take_position given.0.whole given.1 c.in-Some.j there given.2
+    c.loop-j.invariant.beside (resolve-takes c)
 
-resolve-some : {t : ℕ} (c : resolve-After-take-next t) → has c.args.stop.rivals c.lowest-j.result ≡ true
+resolve-some : {t : ℕ} (c : resolve-After-take-next t) → has c.args.stop.rivals c.in-Some.j ≡ true
     → (d : Diagram)
     × Position c.args.table.now c.take-next.result c.take-next.new.work d
 resolve-some c there =
     let t = c.args.table.now in
     let (d, at) = c.requires.1.some in
-    (select (project_in t) (own_of t) d c.lowest-j.result, resolve-position c there d at)
+    (select (project_in t) (own_of t) d c.in-Some.j, resolve-position c there d at)
 
 pub resolve-complete-requires : goal.resolve-complete-requires
-resolve-complete-requires t c = (
-  resolve-given (goal.at.resolve-complete-requires t c).After-after_lowest-rest,
-  uncontested c.args.table.now c.take-next.result.left
-      (resolve-some (goal.at.resolve-complete-requires t c).After-take-next (resolve-rival (goal.at.resolve-complete-requires t c).After-after_lowest-rest)).1.sets.left_low (omega (arith, resolve-many (goal.at.resolve-complete-requires t c).After-take-next (resolve-rival (goal.at.resolve-complete-requires t c).After-after_lowest-rest), c.if-many-eq0.true)),
-  resolve-latest (goal.at.resolve-complete-requires t c).After-later-last (resolve-rival (goal.at.resolve-complete-requires t c).After-after_lowest-rest) (resolve-takes (goal.at.resolve-complete-requires t c).After-take-next),
-  resolve-some (goal.at.resolve-complete-requires t c).After-take-next (resolve-rival (goal.at.resolve-complete-requires t c).After-after_lowest-rest),
-)
+resolve-complete-requires t c =
+    let p = goal.at.resolve-complete-requires t c in
+    let there = resolve-rival p.In-Some in (
+      resolve-given p.In-Some,
+      uncontested c.args.table.now c.take-next.result.left
+          (resolve-some p.After-take-next there).1.sets.left_low (omega (arith, resolve-many p.After-take-next there, c.if-many-eq0.true)),
+      resolve-latest p.After-max-last there (resolve-takes p.After-take-next),
+      resolve-some p.After-take-next there,
+    )
 
 pub resolve-descend-requires : goal.resolve-descend-requires
-resolve-descend-requires t c = (
-  omega (
-    arith,
-    c.decreases,
-    rival_less c.requires.0.whole c.requires.1 c.lowest-j.result (resolve-rival (goal.at.resolve-descend-requires t c).After-after_lowest-rest),
-    ap (λ (x : ℕ). size x most) (resolve_left (goal.at.resolve-descend-requires t c).After-take-next (resolve-rival (goal.at.resolve-descend-requires t c).After-after_lowest-rest)),
-  ),
-  (resolve-given (goal.at.resolve-descend-requires t c).After-after_lowest-rest, resolve-latest (goal.at.resolve-descend-requires t c).After-later-last (resolve-rival (goal.at.resolve-descend-requires t c).After-after_lowest-rest) (resolve-takes (goal.at.resolve-descend-requires t c).After-take-next), omega (arith, resolve-many (goal.at.resolve-descend-requires t c).After-take-next (resolve-rival (goal.at.resolve-descend-requires t c).After-after_lowest-rest)), resolve-some (goal.at.resolve-descend-requires t c).After-take-next (resolve-rival (goal.at.resolve-descend-requires t c).After-after_lowest-rest)),
-)
+resolve-descend-requires t c =
+    let p = goal.at.resolve-descend-requires t c in
+    let there = resolve-rival p.In-Some in (
+      omega (
+        arith,
+        c.decreases,
+        rival_less c.requires.0.whole c.requires.1 c.in-Some.j there,
+        ap (λ (x : ℕ). size x most) (resolve_left p.After-take-next there),
+      ),
+      (resolve-given p.In-Some, resolve-latest p.After-max-last there (resolve-takes p.After-take-next), omega (arith, resolve-many p.After-take-next there), resolve-some p.After-take-next there),
+    )
 
 pub resolve-store_free-requires : goal.resolve-store_free-requires
 resolve-store_free-requires t c =
     omega (arith, resolve-low (goal.at.resolve-store_free-requires t c).After-lowest-c)
 
-pub resolve-loop-rest-smaller : goal.resolve-loop-rest-smaller
-resolve-loop-rest-smaller t c = (resolve-turn (goal.at.resolve-loop-rest-smaller t c).After-after_lowest-rest).fewer
-
 -- by either way what is below has been explored
-abbrev Done : {t : ℕ} → resolve-Joined-many-eq0 t → Type 0
-Done c =
-    Explored c.args.table.now c.args.book.now c.take-next.result (kept_of c.loop-rest.cells c.loop-rest.area)
+resolve-done : {t : ℕ} (c : resolve-Joined-many-eq0 t)
+    → Explored c.args.table.now c.args.book.now c.take-next.result (kept_of c.loop-j.cells c.loop-j.area)
     c.take-next.new.work c.if-many-eq0.work c.if-many-eq0.cells c.if-many-eq0.area
-    × (length c.if-many-eq0.area ≡ length c.loop-rest.area)
-
-resolve-done : {t : ℕ} (c : resolve-Joined-many-eq0 t) → Done c
 resolve-done c =
     elim c.if-many-eq0.branch [
-      | resolve-then-many-eq0 w ↦
-          (explored_same w.complete.ensures w.work-is w.cells-is w.area-is, ap length w.area-is ∙ w.complete.auto.area)
-      | resolve-else-many-eq0 w ↦
-          (explored_same w.descend.ensures w.work-is w.cells-is w.area-is, ap length w.area-is ∙ w.descend.auto.area)
+      | resolve-then-many-eq0 w ↦ explored_same w.complete.ensures w.work-is w.cells-is w.area-is
+      | resolve-else-many-eq0 w ↦ explored_same w.descend.ensures w.work-is w.cells-is w.area-is
     ]
 
-pub resolve-loop-rest-preserved : goal.resolve-loop-rest-preserved
-resolve-loop-rest-preserved t c =
-    let (done, same) = resolve-done (goal.at.resolve-loop-rest-preserved t c).Joined-many-eq0 in
+pub resolve-loop-j-preserved : goal.resolve-loop-j-preserved
+resolve-loop-j-preserved t c =
+    let p = goal.at.resolve-loop-j-preserved t c in
+    let there = resolve-rival p.In-Some in
+    let done = resolve-done p.Joined-many-eq0 in
     let given = c.requires in
-    let j = c.lowest-j.result in
+    let j = c.in-Some.j in
     let first = c.lowest-c in
     let free = c.free_of-free in
-    turning_next given.0.whole given.1 j (resolve-rival (goal.at.resolve-loop-rest-preserved t c).After-after_lowest-rest) c.args.book.now c.loop-rest.invariant (resolve-turn (goal.at.resolve-loop-rest-preserved t c).After-after_lowest-rest)
-    (lowest_least c.loop-rest.rest j c.loop-rest.invariant.inside c.loop-rest-test.true
-    c.lowest-j.ensures)
-    (resolve-position (goal.at.resolve-loop-rest-preserved t c).After-take-next (resolve-rival (goal.at.resolve-loop-rest-preserved t c).After-after_lowest-rest)) done
-    (given_back given.0.whole given.1 j (resolve-rival (goal.at.resolve-loop-rest-preserved t c).After-after_lowest-rest) given.2 c.loop-rest.invariant.beside (resolve-takes (goal.at.resolve-loop-rest-preserved t c).After-take-next)
+    turning_next given.0.whole given.1 j there c.args.book.now c.loop-j.invariant
+    c.in-Some.ensures.steps
+    (resolve-position p.After-take-next there) done
+    (given_back given.0.whole given.1 j there given.2 c.loop-j.invariant.beside (resolve-takes p.After-take-next)
     done.beside (free.ensures ∙ ap (free_at c.args.work.now) first.ensures)
     (c.store_free.ensures ∙ ap (λ (k : ℕ). set c.if-many-eq0.work (free_from + k) free.result) first.ensures))
-    same
-
-pub resolve-shape_of-area : goal.resolve-shape_of-area
-resolve-shape_of-area t c = c.loop-rest.invariant.area_kept
 
 pub resolve-returns : goal.resolve-returns
 resolve-returns t c =
-    turning_last c.requires.0.whole c.requires.1 c.args.book.now c.loop-rest.invariant c.loop-rest-test.false
+    turning_last c.requires.0.whole c.requires.1 c.args.book.now c.loop-j.invariant (none_left c.in-None.ensures.steps)

@@ -15,16 +15,10 @@ decreases-part l = 2 * size l.stop.line.left most
 abbrev pub decreases-resolve : goal.decreases-resolve
 decreases-resolve l = 2 * size l.stop.line.left most
 
-abbrev pub invariant-part-loop-rest : goal.invariant-part-loop-rest
-invariant-part-loop-rest l =
-    Turning l.table l.book l.stop (kept_of l.initial.cells l.initial.area) l.initial.work l.work l.cells l.area l.rest
+abbrev pub invariant-part-loop-j : goal.invariant-part-loop-j
+invariant-part-loop-j l =
+    Turning l.table l.book l.stop (kept_of l.initial.cells l.initial.area) l.initial.work l.work l.cells l.area l.j-iterator.left
 
-abbrev pub decreases-part-loop-rest : goal.decreases-part-loop-rest
-decreases-part-loop-rest l = l.rest
-
-abbrev pub invariant-resolve-loop-rest : goal.invariant-resolve-loop-rest
-invariant-resolve-loop-rest l =
-    Turning l.table l.book l.stop (kept_of l.initial.cells l.initial.area) l.initial.work l.work l.cells l.area l.rest
-
-abbrev pub decreases-resolve-loop-rest : goal.decreases-resolve-loop-rest
-decreases-resolve-loop-rest l = l.rest
+abbrev pub invariant-resolve-loop-j : goal.invariant-resolve-loop-j
+invariant-resolve-loop-j l =
+    Turning l.table l.book l.stop (kept_of l.initial.cells l.initial.area) l.initial.work l.work l.cells l.area l.j-iterator.left

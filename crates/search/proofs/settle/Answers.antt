@@ -1,8 +1,4 @@
-use Prim.Native.Nat.{ℕ, ◌+◌}
 use native.Mathlib.Omega.{arith}
-use mathlib.Core.Path.{ap, ap₂, ◌∙◌}
-use lib.ListN.{set}
-use Rattle.instance.specs.Table.{duration_at}
 use Rattle.search.proofs.Choosing.{left_j, acts_j, below_j, below_c}
 use Rattle.search.proofs.settle.Goals as goal
 
@@ -22,33 +18,5 @@ offset_bounds-table-j c = omega (arith, below_j c.requires)
 pub bounds-table-j : goal.bounds-table-j
 bounds-table-j c = omega (arith, below_j c.requires)
 
-pub overflow_add-end : goal.overflow_add-end
-overflow_add-end c =
-    let given = c.requires in
-    omega (arith, c.soon_of.ensures, given.early)
-
 pub store_end-requires : goal.store_end-requires
 store_end-requires c = omega (arith, below_j c.requires)
-
-pub returns : goal.returns
-returns c =
-    let a = c.args in
-    record {
-      line =
-          ap₂
-          (λ (left due : ℕ).
-          record {
-            tick = a.line.tick;
-            placed = a.line.placed;
-            left = left;
-            term = a.line.term;
-            due = due;
-            passed = a.line.passed;
-            live = a.line.live;
-          })
-          c.without.ensures c.without-2.ensures;
-      stored =
-          c.store_end.ensures
-          ∙ ap (λ (x : ℕ). set a.work.now a.j (x + duration_at a.table.now a.j))
-          c.soon_of.ensures;
-    }

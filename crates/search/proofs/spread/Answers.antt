@@ -1,9 +1,5 @@
-use Rattle.search.proofs.Choosing.{live_given, shift_given, spreads_so}
+use Rattle.search.proofs.Choosing.{live_given, shift_given}
 use Rattle.search.proofs.spread.Goals as goal
-
--- `spread` meets its contract.
-pub settle-next-requires : goal.settle-next-requires
-settle-next-requires c = c.requires.choosing
 
 pub still_live-live-requires : goal.still_live-live-requires
 still_live-live-requires c =
@@ -13,8 +9,3 @@ pub shift-passed-requires : goal.shift-passed-requires
 shift-passed-requires c =
     let given = c.requires in
     shift_given given.choosing c.settle-next.ensures c.still_live-live.ensures given.last
-
-pub returns : goal.returns
-returns c =
-    spreads_so c.requires.choosing c.settle-next.ensures c.still_live-live.ensures
-    c.shift-passed.ensures

@@ -2,18 +2,9 @@ use Prim.Native.Nat.{ℕ, ◌-◌}
 use native.Mathlib.Omega.{arith}
 use mathlib.Core.Path.{ap, ap₂, ◌∙◌}
 use lib.Bits.{bit_or}
-use Rattle.instance.specs.Table.{duration_at, component_at}
-use Rattle.steps.proofs.Loops.{common_low}
+use Rattle.instance.specs.Table.{duration_at}
 use Rattle.search.proofs.Choosing.{lives_so}
 use Rattle.search.proofs.still_live.Goals as goal
-
-pub behind-here-requires : goal.behind-here-requires
-behind-here-requires c =
-    omega (
-      arith,
-      c.common.ensures,
-      common_low c.args.live (component_at c.args.table.now c.args.j) c.requires.1,
-    )
 
 pub returns : goal.returns
 returns c =

@@ -11,8 +11,5 @@ use Rattle.soonest.proofs.misplaced.Given as goal
 abbrev pub Soon : List ℕ → List ℕ → List ℕ → ℕ → Type 0
 Soon table work order j = Soonest table work (get_or order j 0) j
 
-abbrev pub invariant-loop-rest : goal.invariant-loop-rest
-invariant-loop-rest l = Passed (Soon l.table l.work l.order) l.set l.rest
-
-abbrev pub decreases-loop-rest : goal.decreases-loop-rest
-decreases-loop-rest l = l.rest
+abbrev pub invariant-loop-j : goal.invariant-loop-j
+invariant-loop-j l = Passed (Soon l.table l.work l.order) l.set l.j-iterator.left

@@ -3,8 +3,5 @@ use Rattle.steps.proofs.expire.Given as goal
 
 -- `expire` meets its contract. The loop's invariant: those of T that run and have been looked at are kept where they do
 -- not end by the scan-line, and `first` is the least end of those.
-abbrev pub invariant-loop-rest : goal.invariant-loop-rest
-invariant-loop-rest l = Expiring l.work l.line l.term l.first l.rest
-
-abbrev pub decreases-loop-rest : goal.decreases-loop-rest
-decreases-loop-rest l = l.rest
+abbrev pub invariant-loop-i : goal.invariant-loop-i
+invariant-loop-i l = Expiring l.work l.line l.term l.first l.i-iterator.left

@@ -2,23 +2,8 @@ use Prim.Native.Nat.{◌+◌, ◌*◌}
 use native.Mathlib.Omega.{arith}
 use Rattle.instance.specs.Table.{acts_of}
 use Rattle.tally.specs.Seen.{line_in}
-use Rattle.tally.proofs.Rows.{row_placed_lem, line_length, next_at_lem, placed_not}
+use Rattle.tally.proofs.Rows.{row_placed_lem, line_length, placed_not}
 use Rattle.tally.proofs.list.Goals as goal
-
-pub overflow_mul-at : goal.overflow_mul-at
-overflow_mul-at c =
-    let a = c.args in
-    omega (arith, next_at_lem a.count (acts_of a.table.now) (omega arith) c.requires.0.laid.acts)
-
-pub overflow_add-at-2 : goal.overflow_add-at-2
-overflow_add-at-2 c =
-    let a = c.args in
-    omega (arith, next_at_lem a.count (acts_of a.table.now) (omega arith) c.requires.0.laid.acts)
-
-pub overflow_add-at-3 : goal.overflow_add-at-3
-overflow_add-at-3 c =
-    let a = c.args in
-    omega (arith, next_at_lem a.count (acts_of a.table.now) (omega arith) c.requires.0.laid.acts)
 
 pub returns-then-at-acts : goal.returns-then-at-acts
 returns-then-at-acts c =

@@ -6,27 +6,9 @@ use Rattle.schedule.specs.Sessions.{starts_of}
 use Rattle.instance.specs.Table.{variant_of, project_in}
 use Rattle.soonest.specs.Row.{row_in}
 use Rattle.tally.specs.Seen.{setting_in, best_end_cell, best_variant_cell}
-use Rattle.tally.proofs.Rows.{last_is, rank_before, rank_after, tally_set, tied, more_tally, tied_tally}
-use Rattle.tally.proofs.Rows.{ties_there}
+use Rattle.tally.proofs.Rows.{last_is, rank_before, rank_after, tally_set, tied, tied_tally}
 use Rattle.tally.proofs.rank.Goals as goal
 use Rattle.tally.proofs.rank.Goals.{Start}
-
-pub ties_with-requires : goal.ties_with-requires
-ties_with-requires c =
-    let cells = c.args.cells.now in
-    let tally = c.requires.0.tally in
-    (more_tally cells tally, omega (arith, ties_there cells tally, tally.few, c.requires.1))
-
-pub is_before-requires : goal.is_before-requires
-is_before-requires c =
-    let leaf = c.requires.0 in
-    record {
-      whole = leaf.whole;
-      ended = leaf.ended;
-      tally =
-          tied_tally c.args.cells.now leaf.tally _ c.args.latest c.ties_with.ensures;
-      last = leaf.last;
-    }
 
 pub keep-requires : goal.keep-requires
 keep-requires c =
@@ -49,21 +31,13 @@ last s =
     let leaf = s.requires.0 in
     leaf.last ∙ last_is s.args.table.now s.args.work.now leaf.whole leaf.ended
 
-pub returns-then-is_before : goal.returns-then-is_before
-returns-then-is_before c =
-    let leaf = c.requires.0 in
+pub returns-then-is_before-clause-cells_after : goal.returns-then-is_before-clause-cells_after
+returns-then-is_before-clause-cells_after c =
     let a = c.args in
     let t = a.table.now in
-    record {
-      tally = c.keep.ensures.tally;
-      cells_after = rank_before (project_in t) (setting_in t) (row_in t a.work.now) a.cells.now c.ties_with.result
-          a.latest leaf.tally
-          (last (goal.at.returns-then-is_before c).Start)
-          c.ties_with.ensures
-          c.keep.new.cells
-          (sym c.is_before.ensures ∙ c.if-is_before.true)
-          c.keep.ensures.cells_after;
-    }
+    rank_before (project_in t) (setting_in t) (row_in t a.work.now) a.cells.now c.ties_with.result a.latest
+    c.requires.0.tally (last (goal.at.returns-then-is_before-clause-cells_after c).Start) c.ties_with.ensures
+    c.keep.new.cells (sym c.is_before.ensures ∙ c.if-is_before.true) c.keep.ensures.cells_after
 
 pub returns-else-is_before : goal.returns-else-is_before
 returns-else-is_before c =

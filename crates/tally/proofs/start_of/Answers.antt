@@ -2,10 +2,6 @@ use borrow.Author.Tests.{eq-eqb, ne_eqb}
 use Rattle.tally.specs.Leaf.{start_of}
 use Rattle.tally.proofs.start_of.Goals as goal
 
--- `start_of` meets its contract.
-pub overflow_sub-result : goal.overflow_sub-result
-overflow_sub-result c = c.requires c.if-end-eq0.false
-
 pub returns-then-end-eq0 : goal.returns-then-end-eq0
 unfolding start_of
 returns-then-end-eq0 c = rw (eq-eqb c.args.end 0 c.if-end-eq0.true)

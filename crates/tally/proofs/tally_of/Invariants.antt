@@ -1,5 +1,4 @@
 use mathlib.Core.Path.{◌≡◌}
-use Prim.Native.Nat.{◌≤◌, ◌-◌}
 use lib.ListN.{length, take, drop}
 use Rattle.timetable.specs.Mark.{places}
 use Rattle.tally.specs.Seen.{starts_from}
@@ -8,7 +7,4 @@ use Rattle.tally.proofs.tally_of.Given as goal
 -- `tally_of` meets its contract. The loop's invariant: the starts passed are copied.
 abbrev pub invariant-loop-i : goal.invariant-loop-i
 invariant-loop-i l =
-    (l.i ≤ places) × (length l.best.starts ≡ places) × (take l.i l.best.starts ≡ take l.i (drop starts_from l.cells))
-
-abbrev pub decreases-loop-i : goal.decreases-loop-i
-decreases-loop-i l = places - l.i
+    (length l.best.starts ≡ places) × (take l.i l.best.starts ≡ take l.i (drop starts_from l.cells))

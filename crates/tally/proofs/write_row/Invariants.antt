@@ -1,5 +1,4 @@
 use mathlib.Core.Path.{◌≡◌}
-use Prim.Native.Nat.{◌≤◌, ◌-◌}
 use lib.Seq.{paste}
 use Rattle.soonest.specs.Row.{row_in}
 use Rattle.tally.proofs.write_row.Given as goal
@@ -7,7 +6,4 @@ use Rattle.tally.proofs.write_row.Given as goal
 -- `write_row` meets its contract. The loop's invariant: the starts passed are stored behind the first cell.
 abbrev pub invariant-loop-i : goal.invariant-loop-i
 invariant-loop-i l =
-    (l.i ≤ l.acts) × (l.row ≡ paste l.initial.row 1 (row_in l.table l.work) l.i)
-
-abbrev pub decreases-loop-i : goal.decreases-loop-i
-decreases-loop-i l = l.acts - l.i
+    l.row ≡ paste l.initial.row 1 (row_in l.table l.work) l.i

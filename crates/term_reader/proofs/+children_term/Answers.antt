@@ -1,82 +1,43 @@
 -- The cycle of the two readers, `term` and `children`.
-use Rattle.std.proofs.Common.{sym, subst, arith}
-use borrow.Author.Tests.{not-true, not-false}
-use Rattle.plan.specs.Plan.{nodes_in}
-use Rattle.term_reader.specs.declared.Walk.{Walk}
-use Rattle.term_reader.specs.Walk.{ChildrenRead, lost}
-use Rattle.term_reader.proofs.Tables.{held_length, activity_small}
-use Rattle.term_reader.proofs.Walks.{none_left, no_child, no_other, child_joined, further, term_past}
-use Rattle.term_reader.proofs.Walks.{term_activity, term_group}
+use Rattle.std.proofs.Common.{arith}
+use Rattle.term_reader.proofs.Walks.{run_out, activity_read, group_read, xor_read}
+use Rattle.term_reader.proofs.Walks.{none_left, no_child, no_other, child_joined, further}
 use Rattle.term_reader.proofs.+children_term.Goals as goal
 
 pub children-returns-then-left-eq0 : goal.children-returns-then-left-eq0
-children-returns-then-left-eq0 t c =
-    none_left (nodes_in c.args.nodes c.args.letter.now c.args.number.now) c.args.at c.args.left c.args.all
-    c.if-left-eq0.true
+children-returns-then-left-eq0 t c = none_left _ c.if-left-eq0.true
 
-pub children-term-first-requires : goal.children-term-first-requires
-children-term-first-requires t c = (omega (arith, c.decreases), c.requires)
+pub children-returns-in_err-first : goal.children-returns-in_err-first
+children-returns-in_err-first t c =
+    rw c.from_residual.ensures (no_child c.args.nodes.now _ _ c.if-left-eq0.false c.in_err-first.ensures)
 
-pub children-returns-then-not-first : goal.children-returns-then-not-first
-children-returns-then-not-first t c =
-    no_child (nodes_in c.args.nodes c.args.letter.now c.args.number.now) c.args.at c.args.left c.args.all
-    c.term-first.result c.if-left-eq0.false
-    (not-true c.term-first.result.ok c.if-not-first.true) c.term-first.ensures
+pub children-children-requires : goal.children-children-requires
+children-children-requires t c = (omega (arith, c.decreases, further _ c.in_ok-first.ensures), c.requires)
 
-pub children-children-rest-requires : goal.children-children-rest-requires
-children-children-rest-requires t c =
-    let (more, some) =
-    further (nodes_in c.args.nodes c.args.letter.now c.args.number.now) c.args.at c.term-first.result
-    (not-false c.term-first.result.ok c.if-not-first.false) c.term-first.ensures in (
-      omega (
-        arith,
-        c.decreases,
-        held_length c.args.letter.now c.args.number.now c.args.nodes c.requires,
-      ),
-      c.requires,
-    )
-
-pub children-returns-then-not-rest : goal.children-returns-then-not-rest
-children-returns-then-not-rest t c =
-    no_other (nodes_in c.args.nodes c.args.letter.now c.args.number.now) c.args.at c.args.left c.args.all
-    c.term-first.result
-    c.children-rest.result c.if-left-eq0.false
-    (not-false c.term-first.result.ok c.if-not-first.false) c.term-first.ensures
-    (not-true c.children-rest.result.ok c.if-not-rest.true) c.children-rest.ensures
+pub children-returns-in_err-rest : goal.children-returns-in_err-rest
+children-returns-in_err-rest t c =
+    rw c.from_residual-in_err-rest.ensures
+    (no_other _ _ _ c.if-left-eq0.false c.in_ok-first.ensures c.in_err-rest.ensures)
 
 pub children-returns : goal.children-returns
 children-returns t c =
-    subst
-    (λ (w : Walk). ChildrenRead (nodes_in c.args.nodes c.args.letter.now c.args.number.now) c.args.at c.args.left
-    c.args.all w)
-    (sym c.joined.ensures)
-    (child_joined (nodes_in c.args.nodes c.args.letter.now c.args.number.now) c.args.at c.args.left c.args.all
-    c.term-first.result
-    c.children-rest.result c.if-left-eq0.false
-    (not-false c.term-first.result.ok c.if-not-first.false) c.term-first.ensures
-    (not-false c.children-rest.result.ok c.if-not-rest.false) c.children-rest.ensures)
+    rw c.joined.ensures
+    (child_joined _ c.if-left-eq0.false c.in_ok-first.ensures c.in_ok-rest.ensures)
 
-pub term-returns-then-nodes-at : goal.term-returns-then-nodes-at
-unfolding lost
-term-returns-then-nodes-at t c =
-    term_past c.args.letter.now c.args.number.now c.args.nodes c.requires c.args.at c.if-nodes-at.true
+pub term-returns-in_err-i : goal.term-returns-in_err-i
+term-returns-in_err-i t c = rw c.from_residual.ensures (run_out _ _ c.in_err-i.ensures.lookup.3)
 
-pub term-single-requires : goal.term-single-requires
-term-single-requires t c =
-    activity_small c.args.letter.now c.args.number.now c.args.nodes c.requires c.args.at c.if-nodes-at.false
-    c.if-b-eq97.true
+pub term-returns-in-Act : goal.term-returns-in-Act
+term-returns-in-Act t c =
+    let (inside, is) = c.in_ok-i.ensures.lookup.3 in
+    activity_read _ _ c.in-Act.is c.from.ensures inside (is _) c.single.ensures
 
-pub term-returns-then-b-eq97 : goal.term-returns-then-b-eq97
-term-returns-then-b-eq97 t c =
-    term_activity c.args.letter.now c.args.number.now c.args.nodes c.requires c.args.at
-    c.single.result c.if-nodes-at.false
-    c.if-b-eq97.true c.single.ensures
+pub term-returns-in-Seq : goal.term-returns-in-Seq
+term-returns-in-Seq t c =
+    let (inside, is) = c.in_ok-i.ensures.lookup.3 in
+    group_read _ _ _ c.in-Seq.is inside (is _) c.children-in-Seq.ensures
 
-pub term-children-requires : goal.term-children-requires
-term-children-requires t c = (omega (arith, c.decreases), c.requires)
-
-pub term-returns : goal.term-returns
-term-returns t c =
-    term_group c.args.letter.now c.args.number.now c.args.nodes c.requires c.args.at
-    c.together.result c.children.result
-    c.if-nodes-at.false c.if-b-eq97.false c.together.ensures c.children.ensures
+pub term-returns-in-Xor : goal.term-returns-in-Xor
+term-returns-in-Xor t c =
+    let (inside, is) = c.in_ok-i.ensures.lookup.3 in
+    xor_read _ _ _ c.in-Xor.is inside (is _) c.children.ensures

@@ -4,18 +4,12 @@ use Rattle.unbranched.proofs.Onward.{sets₁, runs₁, sets₂, onward}
 use Rattle.unbranched.proofs.Jumped.{jumped}
 use Rattle.unbranched.proofs.move_on.Goals as goal
 
-pub jump-requires : goal.jump-requires
-jump-requires c = c.requires.3.1.sets
-
 pub returns-then-waiting-eq0 : goal.returns-then-waiting-eq0
 returns-then-waiting-eq0 c =
     let (d, here) = c.requires.3 in
     jumped c.args.table.now c.requires.0 c.args.line c.args.work.now c.jump.result
     c.jump.ensures c.requires.1 (sym c.waiting.ensures ∙ c.if-waiting-eq0.true)
     (λ e. omega (arith, c.requires.2, e)) d here
-
-pub expire-expired-requires : goal.expire-expired-requires
-expire-expired-requires c = c.requires.3.1.sets.term_low
 
 pub attach-placed-requires : goal.attach-placed-requires
 attach-placed-requires c =

@@ -1,21 +1,13 @@
-use native.Mathlib.Omega.{arith}
-use Rattle.writer.proofs.Pieces.{own_here, own_next, own_end}
+use Rattle.std.proofs.Common.{not, eqb, rules, ◌∙◌}
+use borrow.Author.Tests.{tests}
+use Rattle.std.proofs.lemmas.Iterator.{YieldsList-from_slice}
+use Rattle.std.proofs.lemmas.Iterator.Search.{position_from_yields_List}
+use Rattle.writer.proofs.Pieces.{own_found}
 use Rattle.writer.proofs.own_resource.Goals as goal
-
-pub loop-i-init : goal.loop-i-init
-loop-i-init c = (omega arith, omega arith)
-
-pub returns-then-units-i-ne0 : goal.returns-then-units-i-ne0
-returns-then-units-i-ne0 c =
-    let at = c.loop-i in
-    own_here c.args.units.now at.i (omega arith) c.if-units-i-ne0.true at.invariant.1
-
-pub loop-i-preserved : goal.loop-i-preserved
-loop-i-preserved c =
-    let at = c.loop-i in
-    (omega arith, own_next c.args.units.now at.i (omega arith) c.if-units-i-ne0.false at.invariant.1)
 
 pub returns : goal.returns
 returns c =
-    let at = c.loop-i in
-    own_end c.args.units.now at.i (omega arith) at.invariant.1
+    c.unwrap_or.ensures
+    ∙ own_found c.args.units.now
+    (position_from_yields_List (λ u. not (eqb u 0)) _ _ c.position.result c.position.ensures.ran
+    (YieldsList-from_slice c.args.units.now cc) (λ x b q k. search (rules, tests)))

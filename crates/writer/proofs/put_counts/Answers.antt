@@ -1,31 +1,14 @@
-use mathlib.Core.Path.{refl}
 use native.Mathlib.Omega.{arith}
 use Rattle.plan.specs.Limits.{bytes}
-use Rattle.writer.proofs.Laws.{filled_short, letters_fit}
-use Rattle.writer.proofs.Lines.{left_all, left_then, left_none}
-use Rattle.writer.proofs.Pieces.{counts_next, counts_end_lem}
+use Rattle.writer.proofs.Laws.{filled_short}
+use Rattle.writer.proofs.Lines.{left_then, left_none}
+use Rattle.writer.proofs.Pieces.{counts_joined}
 use Rattle.writer.proofs.put_counts.Goals as goal
 
-pub loop-i-init : goal.loop-i-init
-loop-i-init c = left_all
-
-pub put_line-next-requires : goal.put_line-next-requires
-put_line-next-requires c =
-    let at = c.loop-i in
-    (omega (arith, at.invariant.near), omega arith, letters_fit (bytes ",#") refl _ _)
-
-pub loop-i-preserved : goal.loop-i-preserved
-loop-i-preserved c =
-    let value = c.wide in
-    let at = c.loop-i in
-    left_then at.invariant (omega arith)
-    (counts_next c.args.units.now at.i value.result value.ensures (omega arith))
-    (filled_short (bytes ",#") _) c.put_line-next.auto.area c.put_line-next.ensures
-
-pub shape_of-area : goal.shape_of-area
-shape_of-area c = c.loop-i.invariant.same
+pub loop-held-preserved : goal.loop-held-preserved
+loop-held-preserved c =
+    left_then counts_joined c.loop-held.invariant c.from.result 0 (omega arith) (cc) (filled_short (bytes ",#") _)
+    c.put_line-next.ensures
 
 pub returns : goal.returns
-returns c =
-    let at = c.loop-i in
-    left_none at.invariant (counts_end_lem c.args.units.now at.i (omega arith))
+returns c = left_none counts_joined c.loop-held.invariant (omega arith)

@@ -4,10 +4,6 @@ use Rattle.writer.proofs.put_piece.Goals as goal
 pub returns-then-b-eq35 : goal.returns-then-b-eq35
 returns-then-b-eq35 c = value_piece c.if-b-eq35.true c.put_value.ensures
 
-pub overflow_cast-first : goal.overflow_cast-first
-overflow_cast-first c =
-    record { fits = c.requires.1 c.if-b-eq64.true }
-
 pub returns-then-b-eq64 : goal.returns-then-b-eq64
 returns-then-b-eq64 c = letter_piece c.if-b-eq64.true c.put_byte.ensures
 
