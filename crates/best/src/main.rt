@@ -5,11 +5,11 @@ fn main(rt: HostRuntime) {
     let mut err = rt.stderr();
     let mut file = [0u8; console::FILE];
     let Ok(n) = console::read_input(&mut rt.stdin(), &mut file) else {
-        console::fail(&mut err, "standard input");
+        let _ = console::fail(&mut err, b"standard input");
         return;
     };
     let best = calls::best(&file[..n], 1000000);
     if console::put_best(&mut rt.stdout(), best).is_err() {
-        console::fail(&mut err, "standard output");
+        let _ = console::fail(&mut err, b"standard output");
     }
 }

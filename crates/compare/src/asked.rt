@@ -1,4 +1,3 @@
-use std::io;
 use std::io::Write;
 
 // What WRITE and CHECK were asked: whether each answer was that of the plain side, how many variants were written out,
@@ -48,8 +47,8 @@ impl Asked {
     }
 }
 
-pub fn put<W: Write>(out: &mut W, asked: Asked) -> io::Result<()> {
-    writeln!(out, "written variants={}", asked.variants)?;
-    writeln!(out, "checked yes={}", asked.yes)?;
-    writeln!(out, "checked no={}", asked.no)
+pub fn put<W: Write>(out: &mut W, asked: Asked) {
+    let _ = writeln!(out, "written variants={}", asked.variants);
+    let _ = writeln!(out, "checked yes={}", asked.yes);
+    let _ = writeln!(out, "checked no={}", asked.no);
 }

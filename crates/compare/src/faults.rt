@@ -1,7 +1,6 @@
 // READ, WRITE and CHECK on generated plans with a fault put in.
 use crate::totals::Totals;
 use plain::Judged;
-use std::io;
 use std::io::Write;
 
 // The files made of each plan, and of all.
@@ -22,7 +21,7 @@ fn count(files: &mut [u64; NUMBERS.len()], number: u64) {
 }
 
 // The file of one more seed; returns how the plain side judges it.
-fn compare<W: Write>(out: &mut W, seed: u64, totals: &mut Totals) -> io::Result<Judged> {
+fn compare<W: Write>(out: &mut W, seed: u64, totals: &mut Totals) -> Judged {
     let mut file = [0u8; 1024];
     let n = generator::generate(seed / FAULTS, &mut file);
     let m = generator::damage(seed, &mut file, n);
@@ -31,31 +30,33 @@ fn compare<W: Write>(out: &mut W, seed: u64, totals: &mut Totals) -> io::Result<
         Some(asked) => {
             totals.add(asked.same, asked);
             if !asked.same {
-                writeln!(out, "fault_differs={seed}")?;
+                let _ = writeln!(out, "fault_differs={seed}");
             }
         }
-        None => writeln!(out, "fault_not_compared={seed}")?,
+        None => {
+            let _ = writeln!(out, "fault_not_compared={seed}");
+        }
     }
-    Ok(j)
+    j
 }
 
-pub fn put_all<W: Write>(out: &mut W) -> io::Result<()> {
+pub fn put_all<W: Write>(out: &mut W) {
     let mut totals = Totals::none();
     let mut files = [0u64; NUMBERS.len()];
     for seed in 0..FILES {
-        match compare(out, seed, &mut totals)? {
+        match compare(out, seed, &mut totals) {
             Judged::Accepted { .. } => count(&mut files, 0),
             Judged::Refused(refusal) => count(&mut files, refusal.number()),
             Judged::Unknown => {}
         }
     }
-    writeln!(out, "faults={FILES}")?;
-    totals.put(out)?;
+    let _ = writeln!(out, "faults={FILES}");
+    totals.put(out);
     for (number, files) in NUMBERS.iter().zip(files.iter()) {
-        match number {
-            0 => writeln!(out, "accepted files={files}")?,
-            _ => writeln!(out, "refused={number} files={files}")?,
-        }
+        let _ = match number {
+            0 => write!(out, "accepted"),
+            _ => write!(out, "refused={number}"),
+        };
+        let _ = writeln!(out, " files={files}");
     }
-    Ok(())
 }

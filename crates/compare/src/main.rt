@@ -13,40 +13,36 @@ mod timetables;
 mod totals;
 mod written;
 
-use std::io;
 use std::io::Write;
 use totals::Totals;
 
 const PLANS: u64 = 300;
 
-// The plan of one more seed.
-fn compare<W: Write>(out: &mut W, seed: u64, totals: &mut Totals) -> io::Result<()> {
+// The plan of one more seed. Where a line cannot be written, here and below, the comparison goes on without it.
+fn compare<W: Write>(out: &mut W, seed: u64, totals: &mut Totals) {
     let mut file = [0u8; 1024];
     let n = generator::generate(seed, &mut file);
     let Some(c) = agreement::compared(&file[..n]) else {
-        return writeln!(out, "not_compared={seed}");
+        let _ = writeln!(out, "not_compared={seed}");
+        return;
     };
     totals.add(c.agrees, c.asked);
-    if c.agrees {
-        Ok(())
-    } else {
-        writeln!(out, "differs={seed}")
+    if !c.agrees {
+        let _ = writeln!(out, "differs={seed}");
     }
 }
 
-fn put_all<W: Write>(out: &mut W) -> io::Result<()> {
+fn put_all<W: Write>(out: &mut W) {
     let mut totals = Totals::none();
     for seed in 0..PLANS {
-        compare(out, seed, &mut totals)?;
+        compare(out, seed, &mut totals);
     }
-    writeln!(out, "plans={PLANS}")?;
-    totals.put(out)?;
-    faults::put_all(out)?;
-    campaigns::put_all(out)
+    let _ = writeln!(out, "plans={PLANS}");
+    totals.put(out);
+    faults::put_all(out);
+    campaigns::put_all(out);
 }
 
 fn main(rt: HostRuntime) {
-    if put_all(&mut rt.stdout()).is_err() {
-        console::fail(&mut rt.stderr(), "standard output");
-    }
+    put_all(&mut rt.stdout());
 }

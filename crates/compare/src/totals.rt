@@ -1,6 +1,5 @@
 // How many files the plain side could judge, on how many of them the two agree, and what WRITE and CHECK were asked.
 use crate::asked::Asked;
-use std::io;
 use std::io::Write;
 
 #[derive(Clone, Copy)]
@@ -28,9 +27,9 @@ impl Totals {
         self.asked.add(asked);
     }
 
-    pub fn put<W: Write>(&self, out: &mut W) -> io::Result<()> {
-        writeln!(out, "known={}", self.known)?;
-        writeln!(out, "agree={}", self.agree)?;
-        crate::asked::put(out, self.asked)
+    pub fn put<W: Write>(&self, out: &mut W) {
+        let _ = writeln!(out, "known={}", self.known);
+        let _ = writeln!(out, "agree={}", self.agree);
+        crate::asked::put(out, self.asked);
     }
 }

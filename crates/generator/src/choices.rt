@@ -20,7 +20,7 @@ fn lines(file: &[u8], n: usize, letter: u8) -> u8 {
     let mut count = 0u8;
     for pair in file.windows(2).take(n) {
         if pair == [b'\n', letter].as_slice() {
-            count = count.saturating_add(1);
+            count = count.wrapping_add(1);
         }
     }
     count
@@ -93,7 +93,7 @@ fn nodes(writer: &mut Writer, c: &Choices) {
 // Puts the term of a state in the place of the nodes of the plan file that is the area's first n bytes, and returns its
 // length then.
 pub fn multiply(state: u64, file: &mut [u8], n: usize) -> usize {
-    let acts = lines(file, n, b'a').saturating_sub(1);
+    let acts = lines(file, n, b'a').wrapping_sub(1);
     let at = first_line(file, n, b'n');
     let mut writer = Writer::new(file, at);
     nodes(&mut writer, &drawn_choices(state, acts));

@@ -30,10 +30,12 @@ fn place(state: u64, n: usize) -> usize {
     ((state >> 8) as usize).checked_rem(n).unwrap_or(0)
 }
 
-// The byte at a place put behind all others.
+// The bytes after a place, each moved to the place before it.
 fn drop(file: &mut [u8], at: usize) {
     if at < file.len() {
-        file[at..].rotate_left(1);
+        for i in at + 1..file.len() {
+            file[i - 1] = file[i];
+        }
     }
 }
 
@@ -49,6 +51,13 @@ fn insert(file: &mut [u8], at: usize, b: u8) {
 fn change(file: &mut [u8], at: usize, state: u64) {
     if let Some(b) = file.get_mut(at) {
         *b = instead(*b, state);
+    }
+}
+
+// A byte at a place, whatever stood there.
+fn set_byte(file: &mut [u8], at: usize, b: u8) {
+    if let Some(place) = file.get_mut(at) {
+        *place = b;
     }
 }
 
@@ -74,11 +83,11 @@ fn faulted(seed: u64, file: &mut [u8], n: usize) -> usize {
         4 => {
             let b = file.get(at).copied().unwrap_or(0);
             insert(file, at, instead(b, third));
-            n.saturating_add(1)
+            n.wrapping_add(1)
         }
         5 => at,
         _ => {
-            insert(file, n, instead(0, third));
+            set_byte(file, n, instead(0, third));
             n.saturating_add(1)
         }
     }

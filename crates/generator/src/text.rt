@@ -1,4 +1,5 @@
 // The lines of a plan file.
+ghost use Rattle.std.specs.Prelude.{◌≤◌, length};
 ghost use Rattle.generator.specs.Text.{Counts};
 
 use crate::tree::Kind;
@@ -8,15 +9,19 @@ use crate::tree::Kind;
 pub struct Writer<'a> {
     out: &'a mut [u8],
     at: usize,
+    ghost held: { at ≤ length out.now },
 }
 
 impl<'a> Writer<'a> {
     pub fn new(out: &'a mut [u8], at: usize) -> Writer<'a> {
+        let at = at.min(out.len());
         Writer { out, at }
     }
 
     // The place behind what was written.
-    pub fn at(&self) -> usize {
+    pub fn at(&self) -> usize
+        ensures { Counts result self.now.out.now }
+    {
         self.at
     }
 

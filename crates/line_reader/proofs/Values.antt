@@ -1,5 +1,5 @@
 -- The digits at the front of a text, and the number that they say.
-use Prim.Native.Nat.{ℕ, ◌+◌, ◌-◌, ◌*◌, ◌^◌, ◌≤◌, ◌<◌}
+use Prim.Native.Nat.{ℕ, zero, suc, min, ◌+◌, ◌-◌, ◌*◌, ◌^◌, ◌≤◌, ◌<◌}
 use mathlib.Core.Bool.{Bool, true, false, not, cond, ◌||◌}
 use mathlib.Core.List.{List, [], ◌∷◌}
 use mathlib.Core.Path.{◌≡◌, refl, sym, ap, subst, ◌∙◌}
@@ -10,6 +10,7 @@ use lib.ListN.{length, get_or, take, drop, drop_of_length-le}
 use lib.Seq.{drop-cons}
 use lib.Dec.{ltb, eqb}
 use borrow.Author.Tests.{ltb-false}
+use Rattle.std.proofs.lemmas.List.{length-take, take_all, take-take}
 use Rattle.std.specs.List.{position, position_or_len}
 use Rattle.std.specs.Option.{unwrap_or}
 use Rattle.base.specs.Lists.{every}
@@ -101,3 +102,41 @@ value_size ds e =
     let size : between 1 most_digits (length ds) ≡ true = and_left _ (eqb (length ds) 1 || not (eqb (get_or ds 0 0) 48)) e in
     let range = between_facts 1 most_digits (length ds) size in
     range.1
+
+-- The digits of the first bytes are the first of the digits.
+digits_of_front : (k : ℕ) (s : List ℕ) → digits (take k s) ≡ take k (digits s)
+unfolding digits
+digits_of_front zero s = refl
+digits_of_front (suc k) [] = refl
+digits_of_front (suc k) (b ∷ s) =
+    by_bool (is_digit b)
+    (λ e.
+    digits_more b (take k s) e ∙ ap (λ t. b ∷ t) (digits_of_front k s) ∙ ap (take (suc k)) (sym (digits_more b s e)))
+    (λ e. digits_end b (take k s) e ∙ ap (take (suc k)) (sym (digits_end b s e)))
+
+-- The digits of one byte more than a value has are those of the text, or are too many, as those are.
+module _ (s : List ℕ) where
+  abbrev most : ℕ
+  most = most_digits + 1
+
+  abbrev pub front_digits : List ℕ
+  front_digits = digits (take most s)
+
+  pub front_size : length front_digits ≤ min most (length s)
+  front_size = omega (arith, digits_within (take most s), length-take most s)
+
+  pub front_taken : take (length front_digits) s ≡ front_digits
+  front_taken =
+      sym (take-take (length front_digits) most s (omega (arith, front_size))) ∙ digits_taken (take most s)
+
+  front_whole : length (digits s) ≤ most_digits → front_digits ≡ digits s
+  front_whole h = digits_of_front most s ∙ take_all most (digits s) (omega arith)
+
+  pub front_value : is_value front_digits ≡ true → front_digits ≡ digits s
+  front_value e =
+      let size = value_size front_digits e in
+      front_whole (omega (arith, ap length (digits_of_front most s), length-take most (digits s)))
+
+  pub no_front_value : is_value front_digits ≡ false → is_value (digits s) ≡ false
+  no_front_value e =
+      by_bool (is_value (digits s)) (λ v. sym (ap is_value (front_whole (value_size (digits s) v))) ∙ e) (λ n. n)

@@ -1,12 +1,15 @@
 // Reads one line of a text by its form.
 #![tactic(auto)]
 
-ghost use Rattle.std.specs.Prelude.{◌≡◌, ◌≢◌, ◌≤◌, true, [], ◌∷◌, length};
+ghost use Rattle.std.specs.Prelude.{◌≡◌, ◌≢◌, ◌≤◌, ◌+◌, true, [], ◌∷◌, length, take};
 ghost use Rattle.base.specs.Lists.{every};
 ghost use Rattle.plan.specs.Limits.{most_digits};
 ghost use Rattle.plan.specs.Plan.{is_letter};
 ghost use Rattle.format.specs.Lines.{is_digit, digits, is_value, decimal};
 ghost use Rattle.line_reader.specs.Seen.{said, started, Gives, advance};
+
+// The most digits of a value.
+const MOST_DIGITS: usize = 5;
 
 // A line that is read in part or whole: its two latest values, and the bytes that follow.
 #[derive(Clone, Copy)]
@@ -22,13 +25,15 @@ fn is_digit(b: u8) -> bool
     b'0' <= b && b <= b'9'
 }
 
-// How many digits stand at the front of a text.
+// How many digits stand at the front of a text, counted up to one more than a value has.
 fn digit_count(text: &[u8]) -> usize
-    ensures { result ≡ length (digits text.now) }
+    ensures { result ≡ length (digits (take (most_digits + 1) text.now)) }
 {
-    text.iter()
+    let front = &text[..text.len().min(MOST_DIGITS + 1)];
+    front
+        .iter()
         .position(|b| !is_digit(*b))
-        .unwrap_or(text.len())
+        .unwrap_or(front.len())
 }
 
 // One digit, or several up to five, of which the first is not `0`.
@@ -39,7 +44,7 @@ fn is_value(digits: &[u8]) -> bool
     match digits {
         [] => false,
         [_] => true,
-        [first, ..] => *first != b'0' && digits.len() <= 5,
+        [first, ..] => *first != b'0' && digits.len() <= MOST_DIGITS,
     }
 }
 

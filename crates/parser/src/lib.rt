@@ -228,7 +228,7 @@ impl<'a> Lines<'a> {
     {
         let number = self.number;
         let line = self.line(&plan::NODE_FORM)?;
-        let letter = line.first as u8;
+        let letter = line.first;
         let node = ranges::node_in_range(acts, letter, line.second).ok_or(Refusal::Range(number))?;
         if ranges::is_plural(node) {
             Ok(node)

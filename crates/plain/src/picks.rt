@@ -78,7 +78,7 @@ fn turned(p: &Plan, picks: &Picks, v: &Variant) -> Option<Picks> {
 }
 
 // The variants that are still to come, the next one by its picks.
-#[derive(Drop)]
+#[derive(Clone, Copy)]
 pub struct Variants<'a> {
     plan: &'a Plan,
     picks: Option<Picks>,

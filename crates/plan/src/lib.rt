@@ -146,14 +146,14 @@ pub enum Node {
 impl Node {
     ghost use Rattle.plan.specs.Plan.{node_of, letter_of, value_of};
 
-    // There is no letter other than these four.
-    pub fn of(letter: u8, number: u8) -> Node
+    // There is no letter other than these four: a, s, p and x.
+    pub fn of(letter: u32, number: u8) -> Node
         ensures { result ≡ node_of letter number }
     {
         match letter {
-            b'a' => Node::Act(number),
-            b's' => Node::Seq(number),
-            b'p' => Node::Pll(number),
+            97 => Node::Act(number),
+            115 => Node::Seq(number),
+            112 => Node::Pll(number),
             _ => Node::Xor(number),
         }
     }

@@ -33,11 +33,11 @@ fn put_answer<W: Write>(out: &mut W, call: Call, file: &[u8]) -> io::Result<()> 
 fn serve<R: Read, W: Write, E: Write>(reader: &mut R, out: &mut W, err: &mut E, call: Call) {
     let mut file = [0u8; console::FILE];
     let Ok(n) = console::read_input(reader, &mut file) else {
-        console::fail(err, "standard input");
+        let _ = console::fail(err, b"standard input");
         return;
     };
     if put_answer(out, call, &file[..n]).is_err() {
-        console::fail(err, "standard output");
+        let _ = console::fail(err, b"standard output");
     }
 }
 
@@ -48,7 +48,7 @@ fn main(rt: HostRuntime) {
         Ok(Request::Call(call)) => serve(&mut rt.stdin(), &mut out, &mut err, call),
         Ok(Request::Help) => {
             if usage::put_usage(&mut out).is_err() {
-                console::fail(&mut err, "standard output");
+                let _ = console::fail(&mut err, b"standard output");
             }
         }
         Err(wrong) => usage::complain(&rt, &mut err, wrong),

@@ -23,28 +23,31 @@ pub fn put_usage<W: Write>(out: &mut W) -> io::Result<()> {
     write!(out, "{USAGE}")
 }
 
-fn put_word<R: Env, W: Write>(rt: &R, err: &mut W, place: usize) -> io::Result<()> {
+fn put_word<R: Env, W: Write>(rt: &R, err: &mut W, place: usize) {
     let mut word = [0u8; WORD];
     match rt.arg(place, &mut word) {
         Ok(n) => {
-            write!(err, "'")?;
-            err.write_all(&word[..n])?;
-            write!(err, "'")
+            let _ = write!(err, "'");
+            let _ = err.write_all(&word[..n]);
+            let _ = write!(err, "'");
         }
-        Err(FillError::TooLong) => write!(err, "it is longer than 4096 bytes"),
-        Err(FillError::NotPresent) => write!(err, "it is missing"),
+        Err(FillError::TooLong) => {
+            let _ = write!(err, "it is longer than 4096 bytes");
+        }
+        Err(FillError::NotPresent) => {
+            let _ = write!(err, "it is missing");
+        }
     }
 }
 
-fn put_complaint<R: Env, W: Write>(rt: &R, err: &mut W, wrong: Wrong) -> io::Result<()> {
-    let Wrong { place, fault } = wrong;
-    write!(err, "planner: word {place} {fault}: ")?;
-    put_word(rt, err, place)?;
-    writeln!(err)?;
-    put_usage(err)
-}
-
-// Says what is wrong with a word, and how the program is used. If this fails, nobody is left to be told.
+// Says what is wrong with a word, and how the program is used. Where a part cannot be written nobody is left to be
+// told, and the next part is tried.
 pub fn complain<R: Env, W: Write>(rt: &R, err: &mut W, wrong: Wrong) {
-    let _ = put_complaint(rt, err, wrong);
+    let _ = write!(err, "planner: word ");
+    let _ = write!(err, "{}", wrong.place);
+    let _ = write!(err, "{}", wrong.fault);
+    let _ = write!(err, ": ");
+    put_word(rt, err, wrong.place);
+    let _ = writeln!(err);
+    let _ = put_usage(err);
 }

@@ -50,16 +50,17 @@ impl From<Misplaced> for Fault {
     }
 }
 
+// It stands behind the place of the word, hence the blank.
 impl fmt::Display for Fault {
     fn fmt<W: fmt::Write>(&self, f: &mut fmt::Formatter<W>) -> fmt::Result {
         f.write_str(match self {
-            Fault::NotACommand => "is not a command",
-            Fault::NotANumber => "has to be a number from 0 to 4294967295 with no leading zero",
+            Fault::NotACommand => " is not a command",
+            Fault::NotANumber => " has to be a number from 0 to 4294967295 with no leading zero",
             Fault::NotAStart => {
-                "has to be an activity from 0 to 23, a comma and a start from 0 to 4294967294"
+                " has to be an activity from 0 to 23, a comma and a start from 0 to 4294967294"
             }
-            Fault::SecondStart => "gives an activity a second start",
-            Fault::OneTooMany => "is one too many",
+            Fault::SecondStart => " gives an activity a second start",
+            Fault::OneTooMany => " is one too many",
         })
     }
 }

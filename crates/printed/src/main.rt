@@ -126,6 +126,6 @@ fn put_all<W: Write>(out: &mut W) -> io::Result<()> {
 
 fn main(rt: HostRuntime) {
     if put_all(&mut rt.stdout()).is_err() {
-        console::fail(&mut rt.stderr(), "standard output");
+        let _ = console::fail(&mut rt.stderr(), b"standard output");
     }
 }

@@ -105,7 +105,7 @@ pub fn put_listed<W: Write>(
 pub fn put_best<W: Write>(out: &mut W, file: &[u8], cap: u32) -> io::Result<()> {
     match calls::best(file, cap) {
         Ok(best) => {
-            console::put_session(out, best)?;
+            console::put_session(out, best.variant, best.makespan)?;
             put_counts(out, best)?;
             console::put_starts(out, best.timetable)
         }

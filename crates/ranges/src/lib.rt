@@ -62,11 +62,11 @@ pub fn is_ranged(acts: u32, letter: u32, number: u32) -> bool
 }
 
 // The node of such a number.
-pub fn node_in_range(acts: u32, letter: u8, number: u32) -> Option<Node>
+pub fn node_in_range(acts: u32, letter: u32, number: u32) -> Option<Node>
     requires { acts ≤ most_acts }
     ensures { result ≡ then_some (is_ranged acts (node_of letter number)) (node_of letter number) }
 {
-    if is_ranged(acts, u32::from(letter), number) {
+    if is_ranged(acts, letter, number) {
         Some(Node::of(letter, number as u8))
     } else {
         None

@@ -95,7 +95,7 @@ put_nodes-requires c =
             c.activities-activities.result.now acts c.put_activities-at.ensures,
         wrote_short nodes_form (length c.all_nodes-nodes.result.now ∷ 0 ∷ []) c.put_line-at-4.ensures,
       ),
-      nodes,
+      omega (arith, nodes),
     )
 
 pub returns : goal.returns

@@ -1,10 +1,8 @@
-use Rattle.std.proofs.Common.{◌≡◌, ◌∙◌, ap, sym, refl, arith}
+use Rattle.std.proofs.Common.{◌≡◌, ◌∙◌, ap, sym, refl}
 use Rattle.plan.specs.Limits.{node_form}
 use Rattle.plan.specs.Plan.{node_of}
 use Rattle.plan.specs.declared.Refusal.TheVariants.{Range, GroupOfOne}
 use Rattle.format.specs.Parse.{a_line, tested, read, stop, is_ranged, is_plural, node_from}
-use Rattle.line_reader.specs.Seen.{said}
-use Rattle.parser.proofs.Matching.{node_letter}
 use Rattle.parser.proofs.Readers.{two_taken, not_taken, passed, failed, untested, refused, in_range, out_of_range}
 use Rattle.parser.proofs.Lines.node.Goals as goal
 use Rattle.parser.proofs.Lines.node.Goals.{In_ok-node}
@@ -26,10 +24,6 @@ returns-in_err-line c =
     refused _ c.from_residual.result c.from_residual.ensures.1
     (untested is_plural GroupOfOne (tested (is_ranged c.args.acts) Range (a_line node_form node_from))
     (untested (is_ranged c.args.acts) Range (a_line node_form node_from) (not_taken node_from c.in_err-line.ensures)))
-
-pub overflow_cast-letter : goal.overflow_cast-letter
-overflow_cast-letter c =
-    omega (arith, node_letter c.args.self.now.rest.now (said c.in_ok-line.line) c.in_ok-line.ensures.says)
 
 pub returns-in_err-node : goal.returns-in_err-node
 returns-in_err-node c =
